@@ -1,0 +1,4 @@
+pub mod Blocks
+pub mod Directories
+pub mod Records
+pub mod Keeps

@@ -1,0 +1,5 @@
+pub mod Figures
+pub mod MarksBack
+pub mod ReadBack
+pub mod Joined
+pub mod Taken
