@@ -1,0 +1,10 @@
+mod Stacks
+mod Sequences
+mod Powers
+mod Stops
+mod Waits
+mod Readings
+mod Rules
+mod Plateaus
+mod Ends
+mod Contracts

@@ -1,0 +1,10 @@
+pub mod Positions
+pub mod Distances
+pub mod Effects
+pub mod Stacks
+pub mod Progress
+pub mod Leaving
+pub mod Entering
+pub mod Ticks
+pub mod Rules
+pub mod Whole

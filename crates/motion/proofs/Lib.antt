@@ -1,0 +1,4 @@
+pub mod Speeds
+pub mod Steps
+pub mod Bounds
+pub mod Stops

@@ -1,0 +1,4 @@
+pub mod Values
+pub mod Motions
+pub mod Ticks
+pub mod Laws

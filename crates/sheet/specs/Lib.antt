@@ -1,0 +1,10 @@
+pub mod Addresses
+pub mod Characters
+pub mod Counts
+pub mod Desks
+pub mod Fates
+pub mod Files
+pub mod Reasons
+pub mod Shelves
+pub mod Sheets
+pub mod Verdicts

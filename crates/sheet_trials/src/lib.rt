@@ -1,0 +1,3 @@
+// Tests of the proof sheet on short files.
+#[cfg(test)]
+mod tests;
