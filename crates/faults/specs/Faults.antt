@@ -53,6 +53,14 @@ unknownCommand = stopped UnknownCommand Reader 1
 abbrev pub wrongForm : ℕ → Fault
 wrongForm i = stopped WrongForm Reader i
 
+-- 7: the module is busy, and the command is not taken then
+abbrev pub isBusy : Fault
+isBusy = stopped Busy State 0
+
+-- 9: the start speed in word 2 would pass the plateau speed
+abbrev pub startPastPlateau : Fault
+startPastPlateau = stopped StartPastPlateau Values 2
+
 -- 1: the value of word i is past its limit
 abbrev pub pastLimit : ℕ → Fault
 pastLimit i = stopped PastLimit Values i

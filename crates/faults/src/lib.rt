@@ -1,6 +1,6 @@
 // Why a line or a call is refused, and where.
 ghost use mathlib.Core.Path.{_≡_};
-ghost use Rattle.faults.specs.Faults.{numberOf, nameOf, stopped, badLine, unknownCommand, wrongForm, pastLimit, noSuchPhase, noSequence, sequenceExists, memoryFull, pastReserve, wrongMemory, shortReply, wrongAddress};
+ghost use Rattle.faults.specs.Faults.{numberOf, nameOf, stopped, badLine, unknownCommand, wrongForm, isBusy, startPastPlateau, pastLimit, noSuchPhase, noSequence, sequenceExists, memoryFull, pastReserve, wrongMemory, shortReply, wrongAddress};
 
 // The cause of a refusal; its number is told by the module.
 #[derive(Clone, Copy, PartialEq, Debug)]
@@ -97,6 +97,20 @@ impl Fault {
         ensures { λ r. ⌜ r ≡ wrongForm at ⌝ }
     {
         Cause::WrongForm.at(Place::Reader, at)
+    }
+
+    // The module is busy, and the command is not taken then.
+    pub fn busy() -> Fault
+        ensures { λ r. ⌜ r ≡ isBusy ⌝ }
+    {
+        Cause::Busy.at(Place::State, 0)
+    }
+
+    // The start speed in word 2 would pass the plateau speed.
+    pub fn start_past_plateau() -> Fault
+        ensures { λ r. ⌜ r ≡ startPastPlateau ⌝ }
+    {
+        Cause::StartPastPlateau.at(Place::Values, 2)
     }
 
     // The value of word `at` is past its limit.

@@ -134,7 +134,7 @@ kept-text from h cs e = ap (textIn from) e ∙ text-is from cs (⊎-elim (λ l. 
 keeps-of : (cs : List Character) → Keeps (keptOf cs) cs
 keeps-of cs = record { kept = refl; first = refl; second = refl; refused = refl }
 
-taken-of : (cs : List Character) (c : Character) → taken (keptOf cs) c ≡ keptOf (cs ++ c ∷ [])
+pub taken-of : (cs : List Character) (c : Character) → taken (keptOf cs) c ≡ keptOf (cs ++ c ∷ [])
 taken-of cs c = same _ (cs ++ c ∷ []) (step (keptOf cs) cs c (keeps-of cs))
 
 going-of : (cs : List Character) (c : Character) (e s : Bool) → cond e (keptOf []) (cond s (keptOf cs) (taken (keptOf cs) c)) ≡ keptOf (cond e [] (cond s cs (cs ++ c ∷ [])))

@@ -1,1 +1,1 @@
-mod KeptOf
+pub mod KeptOf

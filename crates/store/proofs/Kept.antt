@@ -36,7 +36,7 @@ length-blanked o k m l = simp (length-append, length-take, length-replicate, len
 length-closed : (o k u : ℕ) (m : List Phase) → o + k ≤ u → u ≤ length m → length (closed o k u m) ≡ length m
 length-closed o k u m h l = simp (length-append, length-drop, length-take, length-replicate) (omega arith)
 
-length-rewritten : (r : Result ℕ Fault) (p : Phase) (m : List Phase) → length (rewritten r p m) ≡ length m
+pub length-rewritten : (r : Result ℕ Fault) (p : Phase) (m : List Phase) → length (rewritten r p m) ≡ length m
 length-rewritten (Ok at) p m = length-set m at p
 length-rewritten (Err f) p m = refl
 

@@ -65,7 +65,7 @@ impl Directory {
     }
 
     // Whether a sequence of that number and reserve can be created.
-    fn admits(&self, number: u8, reserve: u8) -> Result<(), Fault>
+    pub fn admits(&self, number: u8, reserve: u8) -> Result<(), Fault>
         ensures { λ r. ⌜ r ≡ create-answer (sequences (now (self .entry))) number reserve ⌝ }
     {
         if number == 0 || number > 99 {
@@ -129,7 +129,7 @@ impl Directory {
     }
 
     // The record of a phase.
-    fn locate(&self, number: u8, np: u8) -> Result<usize, Fault>
+    pub fn locate(&self, number: u8, np: u8) -> Result<usize, Fault>
         ensures answer { λ r. ⌜ r ≡ located (sequences (now (self .entry))) number np ⌝ }
         ensures within { λ r. ⌜ made r (λ at. at < 414) ⌝ }
     {

@@ -1,0 +1,4 @@
+pub mod Rests
+pub mod Lines
+pub mod Machine
+pub mod Views

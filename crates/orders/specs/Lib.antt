@@ -1,0 +1,4 @@
+pub mod State
+pub mod Values
+pub mod Store
+pub mod Judged
