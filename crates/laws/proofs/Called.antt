@@ -84,7 +84,7 @@ acted-called s counter ReadPosition h e = never h e
 acted-called s counter ReadVersion h e = never h e
 acted-called s counter ReadFault h e = never h e
 
-stored-doing : (s : State) (m : List Phase) (o : Order) → stored s m o .doing ≡ s .doing
+pub stored-doing : (s : State) (m : List Phase) (o : Order) → stored s m o .doing ≡ s .doing
 stored-doing s m (StartSpeed n) = refl
 stored-doing s m (PlateauSpeed n) = refl
 stored-doing s m (Slope n) = refl

@@ -1,2 +1,3 @@
 mod Called
 mod Stored
+mod Powered

@@ -1,3 +1,4 @@
 pub mod Examples
 pub mod Called
 pub mod Stored
+pub mod Powered
