@@ -67,7 +67,7 @@ impl Loader {
                 Ok(Done::Stored)
             }
             Order::Read { number, np } => {
-                let found = self.directory.read(memory, number, np)?;
+                let found = self.read(memory, number, np)?;
                 Ok(Done::Found(found))
             }
             Order::Other => Ok(Done::Other),
