@@ -10,6 +10,7 @@ mod finish;
 mod readings;
 mod replies;
 
+#[derive(Drop)]
 pub struct Module<O: StepOutput> {
     receiver: Receiver,
     fault: Option<Fault>,
