@@ -1,4 +1,6 @@
 // The commands of the module, read from the words of a line.
+#![tactic(auto)]
+
 mod command;
 mod names;
 mod read;

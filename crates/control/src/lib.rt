@@ -1,4 +1,6 @@
 // What a module does without its step output: settings, sequences, movements and runs.
+#![tactic(auto)]
+
 mod activity;
 mod control;
 mod obey;

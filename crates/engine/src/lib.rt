@@ -1,4 +1,6 @@
 // The run of a sequence, tick by tick: it reads the phases, the counter and the levels, and answers what is to be done.
+#![tactic(auto)]
+
 mod distance;
 mod effects;
 mod laws;

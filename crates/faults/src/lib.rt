@@ -1,4 +1,6 @@
 // Why a line or a call is refused, and where.
+#![tactic(auto)]
+
 ghost use Rattle.std.specs.Prelude.{◌≡◌};
 ghost use Rattle.faults.specs.Faults.{number_of, name_of, stopped, bad_line, unknown_command, wrong_form, is_busy, start_past_plateau, past_limit, no_such_phase, no_sequence, sequence_exists, memory_full, past_reserve, wrong_memory, short_reply, wrong_address};
 

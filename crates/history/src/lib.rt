@@ -1,4 +1,6 @@
 // Whole histories of a module: calls, their answers, and the law that every history keeps.
+#![tactic(auto)]
+
 mod answer;
 mod calls;
 mod whole;

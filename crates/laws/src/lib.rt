@@ -1,4 +1,6 @@
 // What holds of the module, as theorems over its definitions: worked examples, when a sequence runs, what RS tells, and power.
+#![tactic(auto)]
+
 ghost use Rattle.laws.specs.Called.{RunsOnlyWhenCalled};
 ghost use Rattle.laws.specs.Examples.{WorkedExamples};
 ghost use Rattle.laws.specs.Powered.{PowerWhileMoving, NoStepRefused};

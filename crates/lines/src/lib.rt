@@ -1,4 +1,6 @@
 // What comes off the serial line: characters gathered into lines, and whom a line is for.
+#![tactic(auto)]
+
 mod line;
 mod receiver;
 

@@ -1,4 +1,6 @@
 // Lines taken off the wire, judged, and carried out on the phase memory.
+#![tactic(auto)]
+
 mod loader;
 mod order;
 

@@ -1,4 +1,6 @@
 // Movements tick by tick: their parameters, one tick, the slow stop, and what holds of whole movements.
+#![tactic(auto)]
+
 mod laws;
 mod movement;
 mod parameters;

@@ -1,4 +1,6 @@
 // Lines judged row by row: receiver, reader, state, values and store.
+#![tactic(auto)]
+
 mod order;
 mod rows;
 mod state;

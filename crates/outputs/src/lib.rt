@@ -1,4 +1,6 @@
 // Step outputs: what every output does, the coils of a motor in full and in half steps, and counted pulses.
+#![tactic(auto)]
+
 mod coils;
 mod cycle_counter;
 pub mod full_step;

@@ -1,4 +1,6 @@
 // Proofreads a sequence file: prints what became of each line, and the shelf against the store.
+#![tactic(auto)]
+
 mod request;
 
 use request::{Request, read_request};

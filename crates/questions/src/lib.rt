@@ -1,4 +1,6 @@
 // The answers to the questions for parameters, position, version and fault, and the two short answers to an order.
+#![tactic(auto)]
+
 mod acknowledgements;
 mod fault_record;
 mod parameters;

@@ -1,4 +1,6 @@
 // Scripts of calls read, played on modules, and their transcripts written.
+#![tactic(auto)]
+
 mod end_block;
 mod expected;
 mod fault_text;

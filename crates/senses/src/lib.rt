@@ -1,4 +1,5 @@
 // The sense of a step, a movement or a phase.
+#![tactic(auto)]
 
 #[derive(Clone, Copy, PartialEq, Eq, Debug)]
 pub enum Sense {

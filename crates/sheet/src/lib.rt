@@ -1,4 +1,6 @@
 // The proof sheet of a sequence file: what became of each line, and the shelf held against the store.
+#![tactic(auto)]
+
 mod address;
 mod entry;
 mod reading;

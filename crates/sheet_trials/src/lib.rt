@@ -1,3 +1,5 @@
 // Tests of the proof sheet on short files.
+#![tactic(auto)]
+
 #[cfg(test)]
 mod tests;

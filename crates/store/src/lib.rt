@@ -1,4 +1,6 @@
 // The phase memory: the records of the sequences' phases, and the directory of the sequences.
+#![tactic(auto)]
+
 mod directory;
 mod laws;
 

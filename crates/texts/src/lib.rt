@@ -1,4 +1,6 @@
 // The text of a phase in the answer to RS, which SP takes back.
+#![tactic(auto)]
+
 mod laws;
 mod phase_text;
 

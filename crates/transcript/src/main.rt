@@ -1,4 +1,6 @@
 // Plays scripts of calls on modules, and prints what every call answered.
+#![tactic(auto)]
+
 mod request;
 
 use request::{Request, read_request};

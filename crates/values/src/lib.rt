@@ -1,4 +1,6 @@
 // The limits of the values that the words of the store's commands give.
+#![tactic(auto)]
+
 ghost use Rattle.std.specs.Prelude.{◌≡◌};
 ghost use Rattle.values.specs.Values.{within as within_of, address_values, erase_value, set_point_value, link_value, next_value, outputs_value, record_values, sp_values};
 

@@ -1,4 +1,6 @@
 // The words of a line: what stands between single spaces, each told with its number.
+#![tactic(auto)]
+
 mod numbers;
 mod reader;
 

@@ -7,6 +7,6 @@ pub returns : goal.returns
 returns c = record {
   called = runs_only_when_called;
   stored = tells_what_was_stored;
-  power = power_while_moving c.run-laws.ensures.power;
-  steps = no_step_refused c.run-laws.ensures.power;
+  power = power_while_moving c.run_laws.ensures.power;
+  steps = no_step_refused c.run_laws.ensures.power;
 }

@@ -12,8 +12,8 @@ returns g c =
     let r = c.args.memory.now in
     let n = c.args.lent in
     let s = state_in y g.O.StepOutput.meaning c.args.device.now r in
-    let t = state_in y g.O.StepOutput.meaning c.set-levels.new.self (take n r) in
+    let t = state_in y g.O.StepOutput.meaning c.set_levels.new.self (take n r) in
     record {
-      state = ap (onto y t) (sym (take-append-drop n r)) ∙ part_moved y r n (levels c.args.value) c.requires (omega arith) s t c.set-levels.ensures.state;
-      shown = c.of-plain.ensures ∙ (ap plain_shown c.set-levels.ensures.answer ∙ (told_levels y (onto y s (take n r)) (length (take n r)) c.args.value ∙ part_told y r n (levels c.args.value) c.requires (omega arith) s));
+      state = ap (onto y t) (sym (take-append-drop n r)) ∙ part_moved y r n (levels c.args.value) c.requires (omega arith) s t c.set_levels.ensures.state;
+      shown = c.of_plain.ensures ∙ (ap plain_shown c.set_levels.ensures.answer ∙ (told_levels y (onto y s (take n r)) (length (take n r)) c.args.value ∙ part_told y r n (levels c.args.value) c.requires (omega arith) s));
     }

@@ -12,8 +12,8 @@ returns g c =
     let r = c.args.memory.now in
     let n = c.args.lent in
     let s = state_in y g.O.StepOutput.meaning c.args.device.now r in
-    let t = state_in y g.O.StepOutput.meaning c.power-up.new.self (take n r) in
+    let t = state_in y g.O.StepOutput.meaning c.power_up.new.self (take n r) in
     record {
-      state = ap (onto y t) (sym (take-append-drop n r)) ∙ part_moved y r n (power_up) c.requires (omega arith) s t c.power-up.ensures.state;
-      shown = c.of-plain.ensures ∙ (ap plain_shown c.power-up.ensures.answer ∙ (told_power_up y (onto y s (take n r)) (length (take n r)) ∙ part_told y r n (power_up) c.requires (omega arith) s));
+      state = ap (onto y t) (sym (take-append-drop n r)) ∙ part_moved y r n (power_up) c.requires (omega arith) s t c.power_up.ensures.state;
+      shown = c.of_plain.ensures ∙ (ap plain_shown c.power_up.ensures.answer ∙ (told_power_up y (onto y s (take n r)) (length (take n r)) ∙ part_told y r n (power_up) c.requires (omega arith) s));
     }

@@ -15,5 +15,5 @@ returns g c =
     let t = state_in y g.O.StepOutput.meaning c.tick.new.self (take n r) in
     record {
       state = ap (onto y t) (sym (take-append-drop n r)) ∙ part_moved y r n (tick) c.requires (omega arith) s t c.tick.ensures.state;
-      shown = c.of-tick.ensures ∙ (ap tick_shown c.tick.ensures.answer ∙ (told_tick y (onto y s (take n r)) (length (take n r)) ∙ part_told y r n (tick) c.requires (omega arith) s));
+      shown = c.of_tick.ensures ∙ (ap tick_shown c.tick.ensures.answer ∙ (told_tick y (onto y s (take n r)) (length (take n r)) ∙ part_told y r n (tick) c.requires (omega arith) s));
     }

@@ -2,25 +2,25 @@ use Rattle.std.proofs.Common.{rules}
 use Rattle.orders.specs.Judged.{ordered}
 use Rattle.orders.proofs.rows.order.Goals as goal
 
-pub returns-in-err-text : goal.returns-in-err-text
+pub returns-in_err-text : goal.returns-in_err-text
 unfolding ordered
-returns-in-err-text c = search rules
+returns-in_err-text c = search rules
 
-pub returns-in-err-command : goal.returns-in-err-command
+pub returns-in_err-command : goal.returns-in_err-command
 unfolding ordered
-returns-in-err-command c = search rules
+returns-in_err-command c = search rules
 
-pub returns-in-err-check-state : goal.returns-in-err-check-state
+pub returns-in_err-check_state : goal.returns-in_err-check_state
 unfolding ordered
-returns-in-err-check-state c = search rules
+returns-in_err-check_state c = search rules
 
-pub returns-in-err-order : goal.returns-in-err-order
+pub returns-in_err-order : goal.returns-in_err-order
 unfolding ordered
-returns-in-err-order c = search rules
+returns-in_err-order c = search rules
 
-pub returns-in-err-check-store : goal.returns-in-err-check-store
+pub returns-in_err-check_store : goal.returns-in_err-check_store
 unfolding ordered
-returns-in-err-check-store c = search rules
+returns-in_err-check_store c = search rules
 
 pub returns : goal.returns
 unfolding ordered

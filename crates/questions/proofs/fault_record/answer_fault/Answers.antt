@@ -6,12 +6,12 @@ use Rattle.questions.proofs.fault_record.answer_fault.Goals as goal
 pub returns : goal.returns
 returns c =
     record {
-      length = omega (arith, c.write-fault.ensures.len);
+      length = omega (arith, c.write_fault.ensures.len);
       answer =
           answered_long
           (fault_text c.args.address c.args.fault)
           c.args.out.now
-          (omega (arith, c.write-fault.ensures.wrote.len))
-          (let w = wrote_over c.write-fault.ensures.wrote refl in search rules)
+          (omega (arith, c.write_fault.ensures.wrote.len))
+          (let w = wrote_over c.write_fault.ensures.wrote refl in search rules)
           (omega arith);
     }

@@ -20,6 +20,6 @@ returns-in-Some c =
     record {
       wrote =
           wrote_as c.figures.ensures.wrote
-          (ap₂ figures_of c.figures-in.ensures.count c.from.ensures ∙ (ap (λ k. figures_of (figures_in k) k) n ∙ sym (ap fault_word c.in-Some.is)));
-      len = omega (arith, c.figures.ensures.len, c.figures-in.ensures.few);
+          (ap₂ figures_of c.figures_in.ensures.count c.from.ensures ∙ (ap (λ k. figures_of (figures_in k) k) n ∙ sym (ap fault_word c.in-Some.is)));
+      len = omega (arith, c.figures.ensures.len, c.figures_in.ensures.few);
     }

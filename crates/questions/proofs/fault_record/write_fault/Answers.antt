@@ -11,7 +11,7 @@ returns c =
       wrote =
           wrote_then (wrote_as c.figures.ensures.wrote (ap (figures_of 2) c.from.ensures))
           (wrote_then c.text.ensures
-          (wrote_then c.write-cause.ensures.wrote
+          (wrote_then c.write_cause.ensures.wrote
           c.text-2.ensures));
       len = search rules;
     }

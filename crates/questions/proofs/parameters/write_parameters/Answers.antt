@@ -11,9 +11,9 @@ returns c =
       wrote =
           wrote_then (wrote_as c.figures.ensures.wrote (ap (figures_of 2) c.from.ensures))
           (wrote_then c.text.ensures
-          (wrote_then c.write-speeds.ensures.wrote
+          (wrote_then c.write_speeds.ensures.wrote
           (wrote_then c.text-2.ensures
-          (wrote_then c.write-distance.ensures.wrote
+          (wrote_then c.write_distance.ensures.wrote
           c.text-3.ensures))));
       len = search rules;
     }

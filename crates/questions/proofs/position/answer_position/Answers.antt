@@ -9,9 +9,9 @@ returns c =
     let z = c.args.counter in
     let t : SFits w32 z = search rules in
     let same : to_z w32 (of_z w32 z) ≡ z = to_z-of_z w32 z t in
-    let wrote = wrote_as c.write-position.ensures.wrote (ap (λ n. position_text c.args.address n c.args.levels c.args.outputs) same) in
+    let wrote = wrote_as c.write_position.ensures.wrote (ap (λ n. position_text c.args.address n c.args.levels c.args.outputs) same) in
     record {
-      length = omega (arith, c.write-position.ensures.len);
+      length = omega (arith, c.write_position.ensures.len);
       answer =
           answered_long
           (position_text c.args.address z c.args.levels c.args.outputs)

@@ -14,6 +14,6 @@ returns c =
     record {
       wrote =
           wrote_then (wrote_as c.put.ensures (ap (λ b. b ∷ []) (c.sign.ensures ∙ ap counter_sign same)))
-          (wrote_as c.figures.ensures.wrote (ap (figures_of 7) (c.unsigned-abs.ensures.value ∙ ap nat_abs same)));
+          (wrote_as c.figures.ensures.wrote (ap (figures_of 7) (c.unsigned_abs.ensures.value ∙ ap nat_abs same)));
       len = search rules;
     }

@@ -15,7 +15,7 @@ returns c =
       wrote =
           wrote_then (wrote_as c.figures.ensures.wrote (ap (figures_of 2) c.from.ensures))
           (wrote_then c.text.ensures
-          (wrote_then (wrote_as c.write-counter.ensures.wrote (ap counter_word same))
+          (wrote_then (wrote_as c.write_counter.ensures.wrote (ap counter_word same))
           (wrote_then c.text-2.ensures
           (wrote_then c.hexadecimal2.ensures
           (wrote_then c.text-3.ensures

@@ -8,7 +8,7 @@ pub loop-byte-preserved : goal.loop-byte-preserved
 loop-byte-preserved c =
     let bs = c.args.bytes.now in
     let i = c.loop-byte.byte-index in
-    ap (λ g. gathered g (drop (i + 1) bs)) c.in-ok-take.ensures
+    ap (λ g. gathered g (drop (i + 1) bs)) c.in_ok-take.ensures
     ∙ sym (at_drop_more (gathered (progress c.loop-byte.desk)) bs i 0 c.loop-byte-test.true)
     ∙ c.loop-byte.invariant
 

@@ -4,7 +4,7 @@ use Rattle.sheet.specs.Counts.{count_of}
 use Rattle.sheet.specs.Fates.{is_refused}
 use Rattle.sheet.proofs.Walks.{count_yes, count_no, count_all}
 use Rattle.sheet.proofs.sheet.refused_in.Goals as goal
-use Rattle.sheet.proofs.sheet.refused_in.Goals.{then-is-refused, else-is-refused}
+use Rattle.sheet.proofs.sheet.refused_in.Goals.{then-is_refused, else-is_refused}
 
 abbrev test : Entry → Bool
 test x = is_refused x.fate
@@ -13,9 +13,9 @@ pub loop-entry-preserved : goal.loop-entry-preserved
 loop-entry-preserved c =
     let xs = c.args.entries.now in
     let i = c.loop-entry.entry-index in
-    elim c.if-is-refused.branch [
-      | then-is-refused w ↦ (omega (arith, w.count-is), ap (λ n. n + count_of test (drop (i + 1) xs)) w.count-is ∙ count_yes test xs i c.loop-entry.count c.entry-item.result c.loop-entry-test.true c.entry-item.is w.if-is-refused.ensures c.loop-entry.invariant.1)
-      | else-is-refused w ↦ (omega (arith, w.count-is), ap (λ n. n + count_of test (drop (i + 1) xs)) w.count-is ∙ count_no test xs i c.loop-entry.count c.entry-item.result c.loop-entry-test.true c.entry-item.is w.if-is-refused.ensures c.loop-entry.invariant.1)
+    elim c.if-is_refused.branch [
+      | then-is_refused w ↦ (omega (arith, w.count-is), ap (λ n. n + count_of test (drop (i + 1) xs)) w.count-is ∙ count_yes test xs i c.loop-entry.count c.entry-item.result c.loop-entry-test.true c.entry-item.is w.if-is_refused.ensures c.loop-entry.invariant.1)
+      | else-is_refused w ↦ (omega (arith, w.count-is), ap (λ n. n + count_of test (drop (i + 1) xs)) w.count-is ∙ count_no test xs i c.loop-entry.count c.entry-item.result c.loop-entry-test.true c.entry-item.is w.if-is_refused.ensures c.loop-entry.invariant.1)
     ]
 
 pub returns : goal.returns

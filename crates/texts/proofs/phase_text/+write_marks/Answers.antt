@@ -6,8 +6,8 @@ use Rattle.texts.proofs.phase_text.+write_marks.Goals as goal
 pub returns-then-width-gt0 : goal.returns-then-width-gt0
 returns-then-width-gt0 t c =
     record {
-      wrote = wrote_as (wrote_then (wrote_as c.put.ensures (ap (λ b. b ∷ []) c.mark.ensures)) c.write-marks.ensures.wrote) (marks_more c.args.width c.args.named c.args.levels (omega arith));
-      len = omega (arith, c.put.ensures.len, c.write-marks.ensures.len);
+      wrote = wrote_as (wrote_then (wrote_as c.put.ensures (ap (λ b. b ∷ []) c.mark.ensures)) c.write_marks.ensures.wrote) (marks_more c.args.width c.args.named c.args.levels (omega arith));
+      len = omega (arith, c.put.ensures.len, c.write_marks.ensures.len);
     }
 
 pub returns-else-width-gt0 : goal.returns-else-width-gt0

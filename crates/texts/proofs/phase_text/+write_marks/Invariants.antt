@@ -1,4 +1,4 @@
 use Rattle.texts.proofs.phase_text.+write_marks.Given as goal
 
-abbrev pub decreases-write-marks : goal.decreases-write-marks
-decreases-write-marks l = l.width
+abbrev pub decreases-write_marks : goal.decreases-write_marks
+decreases-write_marks l = l.width

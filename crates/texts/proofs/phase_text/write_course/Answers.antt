@@ -9,15 +9,15 @@ unfolding course_words
 returns c =
     let l = c.args.p.now.link in
     record {
-      bytes = (search rules, c.write-outputs.ensures.byte);
+      bytes = (search rules, c.write_outputs.ensures.byte);
       wrote =
           wrote_as
-          (wrote_then c.write-link.ensures.wrote
+          (wrote_then c.write_link.ensures.wrote
           (wrote_then c.text.ensures
-          (wrote_then c.write-marks.ensures.wrote
+          (wrote_then c.write_marks.ensures.wrote
           (wrote_then c.text-2.ensures
-          (wrote_then c.write-next.ensures.wrote
-          (wrote_then c.text-3.ensures c.write-outputs.ensures.wrote))))))
+          (wrote_then c.write_next.ensures.wrote
+          (wrote_then c.text-3.ensures c.write_outputs.ensures.wrote))))))
           (append_assoc (link_tag l) (32 ∷ link_word l) _);
       len = search rules;
     }

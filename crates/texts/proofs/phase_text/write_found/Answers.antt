@@ -5,10 +5,10 @@ use Rattle.texts.specs.Texts.{rs_found}
 use Rattle.texts.proofs.ReadBack.{reads_back}
 use Rattle.texts.proofs.phase_text.write_found.Goals as goal
 
-pub returns-then-is-written : goal.returns-then-is-written
+pub returns-then-is_written : goal.returns-then-is_written
 unfolding rs_found
-returns-then-is-written c = record { back = reads_back c.args.ns c.args.np c.args.p.now c.write-phase.ensures.bytes; wrote = wrote_as c.write-phase.ensures.wrote (sym (cond-true _ _ _ (sym c.is-written.ensures ∙ c.if-is-written.true))); len = omega (arith, c.write-phase.ensures.len) }
+returns-then-is_written c = record { back = reads_back c.args.ns c.args.np c.args.p.now c.write_phase.ensures.bytes; wrote = wrote_as c.write_phase.ensures.wrote (sym (cond-true _ _ _ (sym c.is_written.ensures ∙ c.if-is_written.true))); len = omega (arith, c.write_phase.ensures.len) }
 
-pub returns-else-is-written : goal.returns-else-is-written
+pub returns-else-is_written : goal.returns-else-is_written
 unfolding rs_found
-returns-else-is-written c = record { back = λ h k w. absurd (both_ways _ (sym c.is-written.ensures ∙ c.if-is-written.false) w); wrote = wrote_as c.text.ensures (sym (cond-false _ _ _ (sym c.is-written.ensures ∙ c.if-is-written.false))); len = omega (arith, c.text.ensures.len) }
+returns-else-is_written c = record { back = λ h k w. absurd (both_ways _ (sym c.is_written.ensures ∙ c.if-is_written.false) w); wrote = wrote_as c.text.ensures (sym (cond-false _ _ _ (sym c.is_written.ensures ∙ c.if-is_written.false))); len = omega (arith, c.text.ensures.len) }

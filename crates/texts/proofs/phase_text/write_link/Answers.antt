@@ -20,6 +20,6 @@ pub returns-in-SubSequence : goal.returns-in-SubSequence
 unfolding both
 returns-in-SubSequence c =
     record {
-      wrote = wrote_as (wrote_then c.text_in-SubSequence.ensures c.figures-in-SubSequence.ensures.wrote) (ap (λ n. codes "NQ " ++ figures_of 2 n) c.from-in-SubSequence.ensures ∙ sym (ap both c.in-SubSequence.is));
-      len = omega (arith, c.text_in-SubSequence.ensures.len, c.figures-in-SubSequence.ensures.len);
+      wrote = wrote_as (wrote_then c.text_in-SubSequence.ensures c.figures_in-SubSequence.ensures.wrote) (ap (λ n. codes "NQ " ++ figures_of 2 n) c.from-in-SubSequence.ensures ∙ sym (ap both c.in-SubSequence.is));
+      len = omega (arith, c.text_in-SubSequence.ensures.len, c.figures_in-SubSequence.ensures.len);
     }

@@ -13,11 +13,11 @@ returns c =
     let same : to_z w32 (of_z w32 z) ≡ z = to_z-of_z w32 z t in
     record {
       wrote =
-          wrote_then (wrote_as c.text.ensures c.sense-letters.ensures)
+          wrote_then (wrote_as c.text.ensures c.sense_letters.ensures)
           (wrote_then c.text-2.ensures
-          (wrote_then (wrote_as c.text-3.ensures c.nature-letters.ensures)
+          (wrote_then (wrote_as c.text-3.ensures c.nature_letters.ensures)
           (wrote_then c.text-4.ensures
           (wrote_then (wrote_as c.put.ensures (ap (λ b. b ∷ []) (c.sign.ensures ∙ ap sign_of same)))
-          (wrote_as c.figures.ensures.wrote (ap (figures_of 7) (c.unsigned-abs.ensures.value ∙ ap nat_abs same)))))));
+          (wrote_as c.figures.ensures.wrote (ap (figures_of 7) (c.unsigned_abs.ensures.value ∙ ap nat_abs same)))))));
       len = search rules;
     }

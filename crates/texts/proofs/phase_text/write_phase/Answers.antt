@@ -9,15 +9,15 @@ pub returns : goal.returns
 unfolding motion_words
 returns c =
     record {
-      bytes = c.write-course.ensures.bytes;
+      bytes = c.write_course.ensures.bytes;
       wrote =
           wrote_as
           (wrote_then (wrote_as c.figures.ensures.wrote (ap (figures_of 2) c.from.ensures))
           (wrote_then c.text.ensures
           (wrote_then (wrote_as c.figures-2.ensures.wrote (ap (figures_of 2) c.from-2.ensures))
           (wrote_then c.text-2.ensures
-          (wrote_then c.write-motion.ensures.wrote
-          (wrote_then c.text-3.ensures c.write-course.ensures.wrote))))))
+          (wrote_then c.write_motion.ensures.wrote
+          (wrote_then c.text-3.ensures c.write_course.ensures.wrote))))))
           (ap (λ t. figures_of 2 c.args.ns ++ 32 ∷ (figures_of 2 c.args.np ++ 32 ∷ t)) (parts_joined c.args.p.now));
       len = search rules;
     }

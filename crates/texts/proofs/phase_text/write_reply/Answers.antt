@@ -8,12 +8,12 @@ pub returns : goal.returns
 unfolding rs_text
 returns c =
     record {
-      back = c.write-found.ensures.back;
+      back = c.write_found.ensures.back;
       wrote =
           wrote_then
           (wrote_then
           (wrote_then (wrote_as c.figures.ensures.wrote (ap (figures_of 2) c.from.ensures)) c.text.ensures)
-          c.write-found.ensures.wrote)
+          c.write_found.ensures.wrote)
           c.text-2.ensures;
       len = search rules;
     }

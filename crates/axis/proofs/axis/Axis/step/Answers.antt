@@ -5,9 +5,9 @@ use Rattle.axis.proofs.axis.Axis.step.Goals as goal
 
 pub returns : goal.returns
 returns g c =
-    let moved = c.step-counted.ensures.moved in
+    let moved = c.step_counted.ensures.moved in
     record {
-      made = c.step-counted.ensures.made;
+      made = c.step_counted.ensures.made;
       moved = moved;
       alike = ap offset moved ∙ step_alike c.args.sense (axis_state g.O.StepOutput.meaning c.args.self.now);
     }

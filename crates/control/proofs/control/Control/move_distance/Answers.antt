@@ -3,4 +3,4 @@ use Rattle.control.proofs.control.Control.move_distance.Goals as goal
 
 pub returns : goal.returns
 unfolding moves_to
-returns c = c.start-movement.ensures
+returns c = c.start_movement.ensures

@@ -12,5 +12,5 @@ returns c =
     let s = state c.args.self.now in
     let g = to_z-of_z w32 c.args.goal c.ranges.goal in
     let z = to_z-of_z w32 c.args.counter c.ranges.counter in
-    c.start-movement.ensures
+    c.start_movement.ensures
     ∙ ap (λ d. moves_on s (begun s.settings.values None d.sense d.steps false)) (c.to-distance.ensures ∙ (λ i. distance_to (g i) (z i)))

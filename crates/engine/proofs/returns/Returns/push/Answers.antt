@@ -3,8 +3,8 @@ use Rattle.std.proofs.lemmas.Bool.{lt-ltb, le-ltb}
 use Rattle.engine.proofs.Stacks.{length_stack, push_stack}
 use Rattle.engine.proofs.returns.Returns.push.Goals as goal
 
-pub returns-then-self-eq-MOST-OPEN : goal.returns-then-self-eq-MOST-OPEN
-returns-then-self-eq-MOST-OPEN c = record {
+pub returns-then-self-eq-MOST_OPEN : goal.returns-then-self-eq-MOST_OPEN
+returns-then-self-eq-MOST_OPEN c = record {
   answer = sym (le-ltb _ _ (omega (arith, length_stack c.args.self.now.places c.args.self.now.depth (omega arith))));
   after = refl;
 }

@@ -12,8 +12,8 @@ pub returns : goal.returns
 returns c =
     let s : Progress = progress c.args.self in
     let o : Outcome = slow_stop s in
-    let e : c.stop-and-conclude.result.0 ≡ o.effects = c.stop-and-conclude.ensures.effects in
-    let r : progress_left c.stop-and-conclude.result.1 ≡ o.rest = c.stop-and-conclude.ensures.rest in
+    let e : c.stop_and_conclude.result.0 ≡ o.effects = c.stop_and_conclude.ensures.effects in
+    let r : progress_left c.stop_and_conclude.result.1 ≡ o.rest = c.stop_and_conclude.ensures.rest in
     record {
       effects = e;
       rest = r;

@@ -18,9 +18,9 @@ returns c =
     let t : Moment = record { counter = c.args.counter; levels = c.args.levels } in
     let s : Progress = progress c.args.self in
     let o : Outcome = ticked g t s in
-    let x : Effects = c.advance-and-conclude.result.0 in
+    let x : Effects = c.advance_and_conclude.result.0 in
     let e : x ≡ o.effects = search rules in
-    let r : progress_left c.advance-and-conclude.result.1 ≡ o.rest = search rules in
+    let r : progress_left c.advance_and_conclude.result.1 ≡ o.rest = search rules in
     record {
       effects = e;
       rest = r;

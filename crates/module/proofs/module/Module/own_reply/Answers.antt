@@ -18,6 +18,6 @@ pub returns-in-ReadVersion : goal.returns-in-ReadVersion
 unfolding order_reply
 returns-in-ReadVersion g c = search rules
 
-pub returns-in-default : goal.returns-in-default
+pub returns-in_default : goal.returns-in_default
 unfolding order_reply
-returns-in-default g c = search rules
+returns-in_default g c = search rules

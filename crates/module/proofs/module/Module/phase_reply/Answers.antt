@@ -7,5 +7,5 @@ use Rattle.module.proofs.module.Module.phase_reply.Goals as goal
 pub returns : goal.returns
 unfolding phase_reply
 returns g c =
-    c.answer-rs.ensures.answer
+    c.answer_rs.ensures.answer
     ∙ ap (λ p. answered (rs_text c.args.self.now.control.address c.args.number c.args.np p) c.args.out.now) c.phase-phase.ensures

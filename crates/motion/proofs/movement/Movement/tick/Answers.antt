@@ -4,8 +4,8 @@ use Rattle.motion.proofs.Steps.{valid}
 use Rattle.motion.proofs.Bounds.{tick_bounds}
 use Rattle.motion.proofs.movement.Movement.tick.Goals as goal
 
-pub returns-then-self-lt-TICKS-PER-SECOND : goal.returns-then-self-lt-TICKS-PER-SECOND
-returns-then-self-lt-TICKS-PER-SECOND c = record {
+pub returns-then-self-lt-TICKS_PER_SECOND : goal.returns-then-self-lt-TICKS_PER_SECOND
+returns-then-self-lt-TICKS_PER_SECOND c = record {
   step = search rules;
   rest = search rules;
   bounds = tick_bounds (motion c.args.self) (valid c.args.self) _ _ (search rules) (search rules);

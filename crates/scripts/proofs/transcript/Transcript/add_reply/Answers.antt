@@ -6,7 +6,7 @@ use Rattle.scripts.proofs.transcript.Transcript.add_reply.Goals as goal
 pub loop-byte-preserved : goal.loop-byte-preserved
 loop-byte-preserved c =
     let xs = c.args.reply.now in
-    escaped_more (vec_items c.loop-byte.self.bytes) (vec_items c.add-escaped.new.self.bytes) (vec_items c.args.self.now.bytes ++ escaped_all xs) xs c.loop-byte.byte-index c.loop-byte-test.true c.in-ok-add-escaped.ensures c.loop-byte.invariant
+    escaped_more (vec_items c.loop-byte.self.bytes) (vec_items c.add_escaped.new.self.bytes) (vec_items c.args.self.now.bytes ++ escaped_all xs) xs c.loop-byte.byte-index c.loop-byte-test.true c.in_ok-add_escaped.ensures c.loop-byte.invariant
 
 pub returns : goal.returns
 returns c =

@@ -8,5 +8,5 @@ returns c =
     let xs = c.args.reply.now in
     let e : eqb (length xs) 0 ≡ false = search rules in
     replied (vec_items c.args.self.now.bytes) (vec_items c.add-2.new.self.bytes) xs e
-    (three (vec_items c.args.self.now.bytes) (60 ∷ (32 ∷ [])) (escaped_all xs) (10 ∷ []) (vec_items c.add.new.self.bytes) (vec_items c.add-reply.new.self.bytes) (vec_items c.add-2.new.self.bytes)
-    c.in-ok-add.ensures c.in-ok-add-reply.ensures c.in-ok-add-2.ensures)
+    (three (vec_items c.args.self.now.bytes) (60 ∷ (32 ∷ [])) (escaped_all xs) (10 ∷ []) (vec_items c.add.new.self.bytes) (vec_items c.add_reply.new.self.bytes) (vec_items c.add-2.new.self.bytes)
+    c.in_ok-add.ensures c.in_ok-add_reply.ensures c.in_ok-add-2.ensures)

@@ -6,6 +6,6 @@ use Rattle.sheet.proofs.reading.Notes.add.Goals as goal
 
 pub returns : goal.returns
 returns c =
-    ap lines_of c.in-ok-push.ensures.items
+    ap lines_of c.in_ok-push.ensures.items
     ∙ map_push _ _ _
     ∙ ap (λ v. lines_of (vec_items v) ++ kept c.args.line ∷ []) c.step.ensures

@@ -12,15 +12,15 @@ returns-in-Some c =
     record {
       directory = c.remove.ensures ∙ erases_blocks (sequences d) c.args.number c.if-number-eq0.false d.apart p e;
       records =
-          c.close-gap.ensures
+          c.close_gap.ensures
           ∙ ap (λ u. closed p.offset p.reserve u c.args.memory.now) c.reserved-used.ensures
           ∙ erases_records (sequences d) c.args.number c.if-number-eq0.false d.apart p c.args.memory.now e;
     }
 
-pub returns-in-default : goal.returns-in-default
-returns-in-default c =
+pub returns-in_default : goal.returns-in_default
+returns-in_default c =
     let d = c.args.self.now in
-    let e = c.in-default.ensures.answer in
+    let e = c.in_default.ensures.answer in
     record {
       directory = keeps_blocks (sequences d) c.args.number c.if-number-eq0.false d.apart e;
       records = keeps_records (sequences d) c.args.number c.if-number-eq0.false d.apart c.args.memory.now e;

@@ -2,17 +2,17 @@ use Rattle.std.proofs.Common.{rules}
 use Rattle.words.specs.Readings.{two_unsigned}
 use Rattle.words.proofs.reader.Reader.two_unsigned.Goals as goal
 
-pub returns-in-err-first : goal.returns-in-err-first
+pub returns-in_err-first : goal.returns-in_err-first
 unfolding two_unsigned
-returns-in-err-first c = search rules
+returns-in_err-first c = search rules
 
-pub returns-in-err-second : goal.returns-in-err-second
+pub returns-in_err-second : goal.returns-in_err-second
 unfolding two_unsigned
-returns-in-err-second c = search rules
+returns-in_err-second c = search rules
 
-pub returns-in-err-end : goal.returns-in-err-end
+pub returns-in_err-end : goal.returns-in_err-end
 unfolding two_unsigned
-returns-in-err-end c = search rules
+returns-in_err-end c = search rules
 
 pub returns : goal.returns
 unfolding two_unsigned
