@@ -12,14 +12,14 @@ pub returns-in-Sequence : goal.returns-in-Sequence
 unfolding both
 returns-in-Sequence c =
     record {
-      wrote = wrote_as (wrote_then c.text_in-Sequence.ensures c.figures.ensures.wrote) (ap (λ n. codes "NL " ++ figures_of 2 n) c.from.ensures ∙ sym (ap both c.in-Sequence.is));
-      len = omega (arith, c.text_in-Sequence.ensures.len, c.figures.ensures.len);
+      wrote = wrote_as (wrote_then c.text-in-Sequence.ensures c.figures.ensures.wrote) (ap (λ n. codes "NL " ++ figures_of 2 n) c.from.ensures ∙ sym (ap both c.in-Sequence.is));
+      len = omega (arith, c.text-in-Sequence.ensures.len, c.figures.ensures.len);
     }
 
 pub returns-in-SubSequence : goal.returns-in-SubSequence
 unfolding both
 returns-in-SubSequence c =
     record {
-      wrote = wrote_as (wrote_then c.text_in-SubSequence.ensures c.figures_in-SubSequence.ensures.wrote) (ap (λ n. codes "NQ " ++ figures_of 2 n) c.from-in-SubSequence.ensures ∙ sym (ap both c.in-SubSequence.is));
-      len = omega (arith, c.text_in-SubSequence.ensures.len, c.figures_in-SubSequence.ensures.len);
+      wrote = wrote_as (wrote_then c.text-in-SubSequence.ensures c.figures-in-SubSequence.ensures.wrote) (ap (λ n. codes "NQ " ++ figures_of 2 n) c.from-in-SubSequence.ensures ∙ sym (ap both c.in-SubSequence.is));
+      len = omega (arith, c.text-in-SubSequence.ensures.len, c.figures-in-SubSequence.ensures.len);
     }
