@@ -29,8 +29,14 @@ impl Verdict {
     {
         match (meant, found) {
             (_, None) => Verdict::Missing,
-            (Some(wanted), Some(stored)) if wanted == stored => Verdict::Stored(stored),
-            (_, Some(stored)) => Verdict::Otherwise(stored),
+            (None, Some(stored)) => Verdict::Otherwise(stored),
+            (Some(wanted), Some(stored)) => {
+                if wanted == stored {
+                    Verdict::Stored(stored)
+                } else {
+                    Verdict::Otherwise(stored)
+                }
+            }
         }
     }
 

@@ -2,7 +2,7 @@ use Rattle.std.proofs.Common.{◌≡◌, ◌+◌, ◌++◌, drop, vec_items, sym
 use Rattle.sheet.specs.Shelves.{erases, kept_of}
 use Rattle.sheet.proofs.Walks.{sift_yes, sift_no, sift_all}
 use Rattle.sheet.proofs.shelf.without.Goals as goal
-use Rattle.sheet.proofs.shelf.without.Goals.{then-not-is_erased_by+in-ok-push, else-not-is_erased_by}
+use Rattle.sheet.proofs.shelf.without.Goals.{then-not-is_erased_by+in_ok-push, else-not-is_erased_by}
 
 pub loop-phase-preserved : goal.loop-phase-preserved
 loop-phase-preserved c =
@@ -11,7 +11,7 @@ loop-phase-preserved c =
     let i = c.loop-phase.phase-index in
     let ls = vec_items c.loop-phase.left in
     elim c.if-not-is_erased_by.branch [
-      | then-not-is_erased_by+in-ok-push w ↦
+      | then-not-is_erased_by+in_ok-push w ↦
           ap (λ v. vec_items v ++ kept_of n (drop (i + 1) xs)) w.left-is
           ∙ ap (λ l. l ++ kept_of n (drop (i + 1) xs)) w.in_ok-push.ensures.items
           ∙ sift_no (erases n) ls xs i c.phase-item.result c.loop-phase-test.true c.phase-item.is (sym w.if-not-is_erased_by.true ∙ c.is_erased_by.ensures) c.loop-phase.invariant

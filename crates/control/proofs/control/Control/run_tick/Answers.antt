@@ -12,8 +12,8 @@ returns c =
     let s = state c.args.self.now in
     let m = c.args.memory.now in
     let z = to_z-of_z w32 c.args.counter c.ranges.counter in
-    let e = c.tick_rest.ensures.effects ∙ ap (λ y. (tick s.blocks m y s.levels s.settings.values (progress c.args.run)).effects) z in
-    let r = c.tick_rest.ensures.rest ∙ ap (λ y. (tick s.blocks m y s.levels s.settings.values (progress c.args.run)).rest) z in
+    let e = c.tick-rest.ensures.effects ∙ ap (λ y. (tick s.blocks m y s.levels s.settings.values (progress c.args.run)).effects) z in
+    let r = c.tick-rest.ensures.rest ∙ ap (λ y. (tick s.blocks m y s.levels s.settings.values (progress c.args.run)).rest) z in
     record {
       effects = e;
       state = c.run_on.ensures ∙ (λ i. runs_on ((c.set_some_outputs.ensures ∙ ap (λ f. with_set_outputs s f.outputs) e) i) (r i));
