@@ -6,6 +6,7 @@ mod request;
 use request::{Request, read_request};
 use sheet::proofread;
 use std::io::Read;
+use std::process::ExitCode;
 use std::{env, fs, io};
 
 // The program ends with status 1; what went wrong has been printed.
@@ -92,12 +93,20 @@ fn follow(rt: &HostRuntime, words: &[String]) -> Result<(), Failed> {
     }
 }
 
-fn main(rt: HostRuntime) -> Result<(), Failed> {
-    match arguments(&rt) {
-        Ok(words) => follow(&rt, words.as_slice()),
+// Does what the arguments ask for, once they are read.
+fn start(rt: &HostRuntime) -> Result<(), Failed> {
+    match arguments(rt) {
+        Ok(words) => follow(rt, words.as_slice()),
         Err(error) => {
             eprintln!(rt; "proofread: the arguments cannot be read: {error}")?;
             Err(Failed)
         }
+    }
+}
+
+fn main(rt: HostRuntime) -> ExitCode {
+    match start(&rt) {
+        Ok(()) => ExitCode::SUCCESS,
+        Err(Failed) => ExitCode::FAILURE,
     }
 }

@@ -17,11 +17,11 @@ returns g c =
     let r = c.args.memory.now in
     let a = axis_state g.O.StepOutput.meaning m.axis in
     let s = state m.control in
-    let z = to_z-of_z w32 c.counter.result (sfits_of c.counter.type-inv) ∙ c.counter.ensures in
-    let e = c.tick_effects.ensures.effects ∙ ap (λ n. tick_effects s r n s.doing) z in
-    let t = c.tick_effects.ensures.state ∙ ap (λ n. ticked s r n s.doing) z in
+    let z = to_z-of_z w32 c.counter.result (sfits_of c.counter.type_inv) ∙ c.counter.ensures in
+    let e = c.tick-effects.ensures.effects ∙ ap (λ n. tick_effects s r n s.doing) z in
+    let t = c.tick-effects.ensures.state ∙ ap (λ n. ticked s r n s.doing) z in
     let x = c.affect-made.ensures.axis ∙ ap (λ f. affected f a) e in
-    let y = to_z-of_z w8 c.affect-made.result (sfits_of c.affect-made.type-inv) ∙ c.affect-made.ensures.made ∙ ap (λ f. step_of f a) e in
+    let y = to_z-of_z w8 c.affect-made.result (sfits_of c.affect-made.type_inv) ∙ c.affect-made.ensures.made ∙ ap (λ f. step_of f a) e in
     let b = c.busy.ensures ∙ ap (λ u. is_busy u.doing) t in
     let f = c.or-self.ensures ∙ (ap (λ h. option_or h.fault m.fault) e ∙ or_latest (tick_effects s r a.counter s.doing).fault m.fault) in
     record {

@@ -8,5 +8,5 @@ use Rattle.module.proofs.module.Module.position_reply.Goals as goal
 
 pub returns : goal.returns
 returns g c =
-    let z = to_z-of_z w32 c.counter.result (sfits_of c.counter.type-inv) ∙ c.counter.ensures in
+    let z = to_z-of_z w32 c.counter.result (sfits_of c.counter.type_inv) ∙ c.counter.ensures in
     c.answer_position.ensures.answer ∙ ap (λ n. answered (position_reply (state c.args.self.now.control) n) c.args.out.now) z
