@@ -46,7 +46,7 @@ fn read_character(text: &[u8], room: usize, lent: usize) -> Option<Call> {
     let byte = read_hexadecimal(figures)?;
     let damaged = match more {
         None => false,
-        Some(word) if word == b"damaged" => true,
+        Some(word) if word == b"damaged".as_slice() => true,
         Some(_) => return None,
     };
     Some(Call::Character {
@@ -70,11 +70,11 @@ fn read_size(text: &[u8]) -> Option<usize> {
 // The output and the address of a module; an address above 255 counts as that.
 fn read_module(text: &[u8]) -> Option<Step<'_>> {
     let (name, address) = cut(text);
-    let output = if name == b"full" {
+    let output = if name == b"full".as_slice() {
         Output::Full
-    } else if name == b"half" {
+    } else if name == b"half".as_slice() {
         Output::Half
-    } else if name == b"pulse" {
+    } else if name == b"pulse".as_slice() {
         Output::Pulse
     } else {
         return None;
@@ -106,25 +106,25 @@ fn read_lent(text: &[u8]) -> Option<Call> {
     let lent = lent_of(read_size(size)?);
     let (name, more) = cut(text?);
     match more {
-        None if name == b"tick" => Some(Call::Tick { lent }),
-        None if name == b"power-up" => Some(Call::PowerUp { lent }),
-        Some(text) if name == b"levels" => read_levels(text, lent),
-        Some(text) if name == b"byte" => read_character(text, ROOM, lent),
+        None if name == b"tick".as_slice() => Some(Call::Tick { lent }),
+        None if name == b"power-up".as_slice() => Some(Call::PowerUp { lent }),
+        Some(text) if name == b"levels".as_slice() => read_levels(text, lent),
+        Some(text) if name == b"byte".as_slice() => read_character(text, ROOM, lent),
         _ => None,
     }
 }
 
 // A line of one word, `text` being empty.
 fn read_bare<'a>(name: &[u8], text: &'a [u8]) -> Result<Step<'a>, Expected> {
-    if name == b"send" {
+    if name == b"send".as_slice() {
         Ok(Step::Send(text))
-    } else if name == b"type" {
+    } else if name == b"type".as_slice() {
         Ok(Step::Type(text))
-    } else if name == b"power-up" {
+    } else if name == b"power-up".as_slice() {
         Ok(Step::Once(Call::PowerUp { lent: RECORDS }))
-    } else if name == b"fault" {
+    } else if name == b"fault".as_slice() {
         Ok(Step::Fault)
-    } else if name == b"state" {
+    } else if name == b"state".as_slice() {
         Ok(Step::State)
     } else {
         Err(wanted(name))
@@ -133,19 +133,19 @@ fn read_bare<'a>(name: &[u8], text: &'a [u8]) -> Result<Step<'a>, Expected> {
 
 // What should follow the first word of a line.
 fn wanted(name: &[u8]) -> Expected {
-    if name == b"module" {
+    if name == b"module".as_slice() {
         Expected::Module
-    } else if name == b"byte" {
+    } else if name == b"byte".as_slice() {
         Expected::Byte
-    } else if name == b"tick" {
+    } else if name == b"tick".as_slice() {
         Expected::Ticks
-    } else if name == b"levels" {
+    } else if name == b"levels".as_slice() {
         Expected::Levels
-    } else if name == b"room" {
+    } else if name == b"room".as_slice() {
         Expected::Room
-    } else if name == b"lent" {
+    } else if name == b"lent".as_slice() {
         Expected::Lent
-    } else if name == b"fault" || name == b"state" || name == b"power-up" {
+    } else if name == b"fault".as_slice() || name == b"state".as_slice() || name == b"power-up".as_slice() {
         Expected::Alone
     } else {
         Expected::Order
@@ -153,13 +153,13 @@ fn wanted(name: &[u8]) -> Expected {
 }
 
 fn read_call(name: &[u8], text: &[u8]) -> Option<Call> {
-    if name == b"byte" {
+    if name == b"byte".as_slice() {
         read_character(text, ROOM, RECORDS)
-    } else if name == b"levels" {
+    } else if name == b"levels".as_slice() {
         read_levels(text, RECORDS)
-    } else if name == b"room" {
+    } else if name == b"room".as_slice() {
         read_room(text)
-    } else if name == b"lent" {
+    } else if name == b"lent".as_slice() {
         read_lent(text)
     } else {
         None
@@ -168,13 +168,13 @@ fn read_call(name: &[u8], text: &[u8]) -> Option<Call> {
 
 // A line of more than one word.
 fn read_longer<'a>(name: &[u8], text: &'a [u8]) -> Option<Step<'a>> {
-    if name == b"send" {
+    if name == b"send".as_slice() {
         Some(Step::Send(text))
-    } else if name == b"type" {
+    } else if name == b"type".as_slice() {
         Some(Step::Type(text))
-    } else if name == b"module" {
+    } else if name == b"module".as_slice() {
         read_module(text)
-    } else if name == b"tick" {
+    } else if name == b"tick".as_slice() {
         read_ticks(text)
     } else {
         Some(Step::Once(read_call(name, text)?))
