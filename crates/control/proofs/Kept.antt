@@ -5,7 +5,6 @@ use Rattle.engine.specs.declared.distance.Distance.{Distance as Steps}
 use Rattle.engine.specs.Progress.{Progress}
 use Rattle.engine.specs.Ticks.{slow_stop}
 use Rattle.phases.specs.declared.phase.Phase.{Phase}
-use Rattle.store.specs.declared.directory.Block.{Block}
 use Rattle.orders.specs.declared.order.Order.{Order}
 use Rattle.orders.specs.declared.order.Order.TheVariants.{StartSpeed, PlateauSpeed, Slope, Distance, Forward, Back, ZeroCounter, SetCounter, Move, MoveToOrigin, MoveTo, SlowStop, PowerOn, PowerOff, SetOutputs, Create, Erase, Choose, Start, Write, ReadPhase, Restart, ReadParameters, ReadPosition, ReadVersion, ReadFault}
 use Rattle.control.specs.States.{State, Doing, resting, moving, running, moves_on, runs_on}

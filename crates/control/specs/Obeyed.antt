@@ -1,5 +1,5 @@
 -- What an accepted order does: to the state, to the records, and to the axis.
-use Rattle.std.specs.Prelude.{ℕ, Bool, true, false, cond, ◌||◌, List, ℤ, pos, is_ok, Some, None, Option, ◌==◌}
+use Rattle.std.specs.Prelude.{ℕ, false, cond, ◌||◌, List, ℤ, pos, is_ok, Some, None, Option, ◌==◌}
 use Rattle.std.specs.Option.{unwrap_or}
 use Rattle.faults.specs.Faults.{and_then}
 use Rattle.senses.specs.declared.Sense.TheVariants as sense

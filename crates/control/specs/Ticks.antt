@@ -1,5 +1,5 @@
 -- One tick of what goes on.
-use Rattle.std.specs.Prelude.{ℕ, List, ℤ}
+use Rattle.std.specs.Prelude.{List, ℤ}
 use Rattle.phases.specs.declared.phase.Phase.{Phase}
 use Rattle.motion.specs.Motions.{tick_step, tick_rest}
 use Rattle.engine.specs.declared.effects.Effects.{Effects}

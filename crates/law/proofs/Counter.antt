@@ -1,15 +1,14 @@
 -- Part (c): the counter follows the step output's place from where it was last set.
-use Rattle.std.proofs.Common.{◌≡◌, ℕ, Bool, true, false, cond, List, [], ◌∷◌, ℤ, pos, ◌+ℤ◌, ◌-ℤ◌, Some, None, Option, sym, refl, ap, ◌∙◌, subst, ap₂, arith}
+use Rattle.std.proofs.Common.{◌≡◌, Bool, true, false, cond, List, [], ◌∷◌, ℤ, pos, ◌+ℤ◌, ◌-ℤ◌, Some, None, Option, sym, refl, ap, ◌∙◌, arith}
 use borrow.Author.Differences.{ints}
 use Rattle.law.specs.Events.{Event}
-use Rattle.lines.specs.Characters.{Character}
 use Rattle.law.specs.Events.Event.{stopped, skipped, letter, ending, tick, levels, power_up}
 use Rattle.law.specs.Device.{Device}
-use Rattle.law.specs.History.{State, at, next, after, Setting, set_by, noted, last_set}
+use Rattle.law.specs.History.{at, after, Setting, noted, last_set}
 use Rattle.law.proofs.Lawful.{Lawful}
-use Rattle.law.specs.Law.{new, at_end, latest_setting}
+use Rattle.law.specs.Law.{at_end, latest_setting}
 use Rattle.axis.specs.Wrap.{wrapped24, modulo24}
-use Rattle.axis.proofs.Wrap.{wrapped_step, wrapped_place, wrapped_fits}
+use Rattle.axis.proofs.Wrap.{wrapped_step, wrapped_place}
 
 module _ (D : Device) where
   abbrev pub Follows : D.Core → Setting → Type 0

@@ -1,5 +1,5 @@
 -- What the law of histories asks of a device, call by call, and the theorem.
-use Rattle.std.proofs.Common.{◌≡◌, ℕ, Bool, true, false, List, [], ℤ, pos, ◌+ℤ◌, Some, None}
+use Rattle.std.proofs.Common.{◌≡◌, ℕ, true, false, List, [], ℤ, pos, ◌+ℤ◌, Some, None}
 use Rattle.law.specs.Events.{Event, heeded}
 use Rattle.lines.specs.Characters.{Character}
 use Rattle.law.specs.Device.{Device}

@@ -1,11 +1,11 @@
 -- What is left to ask of a device whose fault record stands apart.
-use Rattle.std.proofs.Common.{◌≡◌, ℕ, Bool, true, false, List, [], ℤ, pos, ◌+ℤ◌, Some, None, fold, sym, refl, ap, ◌∙◌, subst}
+use Rattle.std.proofs.Common.{◌≡◌, ℕ, true, false, List, ℤ, pos, ◌+ℤ◌, Some, None, fold, sym, refl, ap, ◌∙◌, subst}
 use mathlib.Core.Bool.{false≢true}
 use Rattle.law.specs.Events.{heeded}
 use Rattle.lines.specs.Characters.{Character}
 use Rattle.law.specs.Law.{besides_fault}
 use Rattle.axis.specs.Wrap.{modulo24, wrapped24}
-use Rattle.law.specs.Machine.{Outcome, Machine, Kept, keep, done_by, is_refused, device}
+use Rattle.law.specs.Machine.{Outcome, Machine, Kept, done_by, is_refused, device}
 use Rattle.law.specs.Machine.Outcome.{ignored, accepted, restarted, asks_fault, refused}
 use Rattle.law.proofs.Lawful.{Lawful}
 

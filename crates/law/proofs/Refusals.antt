@@ -1,14 +1,14 @@
 -- Part (b): a history runs as it does without the refused lines that are chosen, but for the fault record.
 -- The shorter history's unfinished line is empty while the longer one's is to be struck out.
-use Rattle.std.proofs.Common.{◌≡◌, ℕ, suc, Bool, true, false, cond, not, ◌&&◌, List, [], ◌∷◌, map, ℤ, sym, refl, ap, ◌∙◌, subst, ap₂}
-use Rattle.law.specs.Events.{Event, Answer}
+use Rattle.std.proofs.Common.{◌≡◌, ℕ, suc, Bool, true, false, cond, not, ◌&&◌, List, [], ◌∷◌, map, refl, ap, ◌∙◌, ap₂}
+use Rattle.law.specs.Events.{Event}
 use Rattle.lines.specs.Characters.{Character}
 use Rattle.law.specs.Events.Event.{stopped, skipped, letter, ending, tick, levels, power_up}
 use Rattle.law.specs.Events.Answer.{refused, reply, ticked, done}
 use Rattle.law.specs.Device.{Device}
-use Rattle.law.specs.History.{State, at, next, answer, after, answers, those, will_be_refused, spared}
+use Rattle.law.specs.History.{State, at, after, answers, those, will_be_refused, spared}
 use Rattle.law.proofs.Lawful.{Lawful}
-use Rattle.law.specs.Law.{besides_fault, besides_rx, new, at_end, all_answers, no_refused}
+use Rattle.law.specs.Law.{besides_rx, new, at_end, all_answers, no_refused}
 
 module _ (D : Device) where
   -- the marked answers of the run of h from s are those of the run of hs from ss, apart from what RX tells, and so are the ends

@@ -1,12 +1,12 @@
 -- Part (a): a history runs as it does without its strangers' lines.
 -- The shorter history's unfinished line is empty while the longer one's is a stranger's.
-use Rattle.std.proofs.Common.{◌≡◌, ℕ, Bool, true, false, cond, List, [], ◌∷◌, ◌++◌, ℤ, fold, sym, refl, ap, ◌∙◌, subst}
+use Rattle.std.proofs.Common.{◌≡◌, ℕ, Bool, true, false, cond, List, [], ◌∷◌, ◌++◌, fold, sym, refl, ap, ◌∙◌, subst}
 use Rattle.law.specs.Events.{Event, Answer, heeded}
 use Rattle.lines.specs.Characters.{Character}
 use Rattle.law.specs.Events.Event.{stopped, skipped, letter, ending, tick, levels, power_up}
-use Rattle.law.specs.Events.Answer.{refused, reply, ticked, done}
+use Rattle.law.specs.Events.Answer.{reply, ticked, done}
 use Rattle.law.specs.Device.{Device}
-use Rattle.law.specs.History.{State, at, next, answer, after, answers, those, line_of, will_be_heeded, stays}
+use Rattle.law.specs.History.{State, at, after, answers, those, line_of, will_be_heeded, stays}
 use Rattle.law.proofs.Lawful.{Lawful}
 use Rattle.law.specs.Law.{told, tells, new, at_end, all_answers, no_strangers}
 

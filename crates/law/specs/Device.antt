@@ -1,5 +1,5 @@
 -- A module on the line, by what its calls do: the law of histories is stated and proved over every one of these.
-use Rattle.std.specs.Prelude.{ℕ, Bool, List, [], ◌∷◌, ℤ, Option}
+use Rattle.std.specs.Prelude.{ℕ, Bool, List, ℤ, Option}
 use Rattle.lines.specs.Characters.{Character}
 
 pub record Device : Type 1 where

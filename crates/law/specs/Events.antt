@@ -1,5 +1,5 @@
 -- What the calls of a history are to the module and to the line.
-use Rattle.std.specs.Prelude.{ℕ, ◌+◌, ◌/◌, ◌%◌, Bool, true, false, cond, not, ◌&&◌, ◌||◌, List, [], ◌∷◌, ℤ, ◌==◌, nat_lt}
+use Rattle.std.specs.Prelude.{ℕ, Bool, true, false, cond, ◌||◌, List, ℤ, ◌==◌, nat_lt}
 use Rattle.lines.specs.Characters.{Character, is_own, is_broadcast}
 use Rattle.law.specs.declared.Call.{Call}
 use Rattle.law.specs.declared.Call.TheVariants as call

@@ -1,5 +1,5 @@
 -- The law of whole histories.
-use Rattle.std.specs.Prelude.{◌≡◌, ℕ, Bool, true, false, cond, ◌&&◌, List, [], ◌∷◌, map, take, ℤ, pos, ◌+ℤ◌, ◌-ℤ◌, ◌==◌, slice_index}
+use Rattle.std.specs.Prelude.{◌≡◌, ℕ, Bool, true, false, cond, ◌&&◌, List, [], ◌∷◌, map, take, pos, ◌+ℤ◌, ◌-ℤ◌, ◌==◌, slice_index}
 use Rattle.axis.specs.Wrap.{wrapped24}
 use Rattle.law.specs.Events.{Event, Answer}
 use Rattle.law.specs.Events.Answer.{refused, reply, ticked, done}

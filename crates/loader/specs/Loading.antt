@@ -1,5 +1,5 @@
 -- What becomes of a line: the answer, the sequences and the records behind it.
-use Rattle.std.specs.Prelude.{◌≡◌, ℕ, Bool, cond, List, [], is_ok, Some, None, Ok, Err, Option, Result, nat_le}
+use Rattle.std.specs.Prelude.{ℕ, cond, List, [], is_ok, Some, None, Ok, Err, Option, Result, nat_le}
 use Rattle.faults.specs.declared.Fault.{Fault}
 use Rattle.faults.specs.Faults.{and_then, wrong_address}
 use Rattle.lines.specs.Lines.{Kept, kept, kept_of}

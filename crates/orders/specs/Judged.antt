@@ -1,5 +1,5 @@
 -- All rows in their order.
-use Rattle.std.specs.Prelude.{ℕ, Bool, true, false, List, Some, None, Ok, Err, Option, Result}
+use Rattle.std.specs.Prelude.{ℕ, Bool, true, false, List, Some, None, Ok, Option, Result}
 use Rattle.faults.specs.declared.Fault.{Fault}
 use Rattle.faults.specs.Faults.{and_then}
 use Rattle.lines.specs.declared.line.Addressee.{Addressee}

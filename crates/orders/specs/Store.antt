@@ -1,5 +1,5 @@
 -- The row store: the sequences that an order names.
-use Rattle.std.specs.Prelude.{ℕ, cond, List, Some, None, Ok, Err, Option, Result}
+use Rattle.std.specs.Prelude.{ℕ, List, Some, None, Ok, Err, Option, Result}
 use Rattle.faults.specs.declared.Fault.{Fault}
 use Rattle.faults.specs.Faults.{no_sequence}
 use Rattle.store.specs.declared.directory.Block.{Block}

@@ -1,5 +1,5 @@
 -- The row values: the limits of the numbers, the leftmost word first.
-use Rattle.std.specs.Prelude.{ℕ, Bool, cond, ◌&&◌, ℤ, pos, negsuc, Ok, Err, Result, int_le, nat_le, nat_lt}
+use Rattle.std.specs.Prelude.{ℕ, cond, ◌&&◌, ℤ, pos, negsuc, Ok, Err, Result, int_le, nat_le, nat_lt}
 use Rattle.faults.specs.declared.Fault.{Fault}
 use Rattle.faults.specs.Faults.{and_then, past_limit, start_past_plateau}
 use Rattle.commands.specs.declared.command.Command.{Command}

@@ -1,5 +1,5 @@
 -- The first four characters of a fault's text: the figures of the address and the letters E E.
-use Rattle.std.proofs.Common.{◌≡◌, ℕ, ◌+◌, ◌/◌, ◌%◌, [], ◌∷◌, get_or, take, Option, refl}
+use Rattle.std.proofs.Common.{◌≡◌, ℕ, get_or, take, Option, refl}
 use Rattle.faults.specs.declared.Fault.{Fault}
 use Rattle.replies.specs.Replies.{figures_of}
 use Rattle.questions.specs.Questions.{fault_text}

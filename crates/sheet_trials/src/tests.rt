@@ -9,7 +9,7 @@ const CUT: &[u8] = b"00SN 3 2\r00SP 3 1 S+ NX C-800\r00SP 3 2 S+ NH C0";
 fn cut_file_fails(rt: HostRuntime) -> Result<(), Fail> {
     let sheet = proofread(rt.alloc(), 0, CUT)?;
     assert!(rt; !sheet.is_clean());
-    assert!(rt; sheet.held.characters() == b"00SP 3 2 S+ NH C0");
+    assert!(rt; sheet.held.characters() == b"00SP 3 2 S+ NH C0".as_slice());
     assert_eq!(rt; sheet.stored(), 1);
     assert_eq!(rt; sheet.meant(), 2);
     match sheet.shelf.last() {

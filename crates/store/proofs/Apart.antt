@@ -1,8 +1,8 @@
 -- The sequences lie one behind the other, so a change of one leaves the others.
-use Rattle.std.proofs.Common.{◌≡◌, ℕ, zero, suc, ◌+◌, ◌-◌, ◌<◌, ◌≤◌, Bool, true, false, cond, not, ◌&&◌, eqb, leb, List, [], ◌∷◌, ◌++◌, length, get_or, take, drop, set, replicate, Some, None, Option, sym, refl, ap, ◌∙◌, subst, arith}
-use Rattle.std.specs.List.{remove, AllByRecursion as All}
-use Rattle.std.proofs.lemmas.List.{append_assoc, length-append, length-take, length-drop, length-set, length-replicate, take_at, take-append-le, drop_at, drop-append-le, take-append-drop, drop-drop, take-take, set-append_left, set-append_right, append-nil, nil_from_length, take-set-le, drop-set-lt, drop-take}
-use Rattle.std.proofs.lemmas.Bool.{cond_both, and_parts, and_from, not-true, eq-eqb, ne_eqb, eqb-true, eqb-false, not_from_false, leb-true}
+use Rattle.std.proofs.Common.{◌≡◌, ℕ, ◌+◌, ◌-◌, ◌<◌, ◌≤◌, true, false, cond, ◌&&◌, eqb, leb, List, [], ◌∷◌, ◌++◌, length, take, drop, set, replicate, Some, None, Option, sym, refl, ap, ◌∙◌, subst, arith}
+use Rattle.std.specs.List.{remove}
+use Rattle.std.proofs.lemmas.List.{length-take, length-drop, length-set, take-append-le, drop-append-le, take-append-drop, drop-drop, nil_from_length, take-set-le, drop-set-lt, drop-take}
+use Rattle.std.proofs.lemmas.Bool.{cond_both, and_parts, and_from, ne_eqb, eqb-true, not_from_false, leb-true}
 use Rattle.store.specs.declared.directory.Block.{Block}
 use Rattle.store.specs.declared.directory.Span.{Span}
 use Rattle.phases.specs.declared.phase.Phase.{Phase}

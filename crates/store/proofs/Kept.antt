@@ -1,16 +1,15 @@
 -- The law over whole runs, and what RS tells.
-use Rattle.std.proofs.Common.{◌≡◌, ℕ, zero, suc, ◌+◌, ◌-◌, ◌<◌, ◌≤◌, Bool, true, false, cond, not, ◌&&◌, eqb, leb, List, [], ◌∷◌, ◌++◌, length, get_or, take, drop, set, replicate, is_ok, Some, None, Ok, Err, Option, Result, sym, refl, ap, ◌∙◌, subst, inl, inr, arith, get_or-set_same}
-use Rattle.std.specs.List.{remove}
+use Rattle.std.proofs.Common.{◌≡◌, ℕ, zero, suc, ◌+◌, ◌-◌, ◌<◌, ◌≤◌, true, false, cond, not, ◌&&◌, eqb, leb, List, [], ◌∷◌, ◌++◌, length, get_or, take, drop, set, replicate, is_ok, Some, None, Ok, Err, Option, Result, sym, refl, ap, ◌∙◌, subst, inl, inr, arith, get_or-set_same}
 use Rattle.std.proofs.lemmas.List.{length-append, length-take, length-drop, length-set, length-replicate, drop-drop, get_or-take, get_or-drop, take_at, drop-set-add}
 use Rattle.std.proofs.lemmas.Bool.{cond_both, and_parts, leb-true, cases_Bool, false≢true, not-true, eq-eqb}
 use Rattle.store.specs.declared.directory.Block.{Block}
 use Rattle.store.specs.declared.directory.Span.{Span}
 use Rattle.faults.specs.declared.Fault.{Fault}
 use Rattle.phases.specs.declared.phase.Phase.{Phase}
-use Rattle.phases.specs.Phases.{SequenceNumber, Written, blank}
+use Rattle.phases.specs.Phases.{Written, blank}
 use Rattle.store.specs.Blocks.{reserved, placed, absent, sound, Within}
-use Rattle.store.specs.Records.{appended, blanked, closed, create_answer, in_span, located, write_answer, rewritten, read_answer, shown, without, erased_blocks, erased_records}
-use Rattle.store.specs.Keeps.{phases, Store, Fit, Command, SN, SE, SP, step, run, Spares, Keeps, Tells, told, Changes, with_phase, ReadsWhatWasWritten, Examples}
+use Rattle.store.specs.Records.{blanked, closed, create_answer, in_span, located, write_answer, rewritten, read_answer, without, erased_blocks, erased_records}
+use Rattle.store.specs.Keeps.{phases, Store, Fit, Command, SN, SE, SP, step, Spares, Keeps, Tells, told, Changes, with_phase, ReadsWhatWasWritten, Examples}
 use Rattle.store.proofs.Sound.{reserved_append, reserved_removed, sound_push, sound_removed, within_placed}
 use Rattle.store.proofs.Asked.{created, erases_blocks, keeps_blocks, erases_records, keeps_records}
 use Rattle.store.proofs.Apart.{phases_append, sn_keeps, sp_keeps, se_keeps}

@@ -1,7 +1,7 @@
 -- What holds of the sequences of a directory.
-use Rattle.std.proofs.Common.{◌≡◌, ℕ, zero, suc, ◌+◌, ◌-◌, ◌<◌, ◌≤◌, Bool, true, false, cond, not, ◌&&◌, eqb, leb, ◌⊎◌, List, [], ◌∷◌, ◌++◌, length, take, drop, is_some, Some, None, Option, sym, refl, ap, ◌∙◌, subst, inl, inr, arith}
+use Rattle.std.proofs.Common.{◌≡◌, ℕ, zero, suc, ◌+◌, ◌-◌, ◌<◌, ◌≤◌, true, false, cond, not, ◌&&◌, eqb, leb, List, [], ◌∷◌, ◌++◌, length, is_some, Some, None, Option, sym, refl, ap, ◌∙◌, subst, inl, inr, arith}
 use Rattle.std.specs.List.{remove}
-use Rattle.std.proofs.lemmas.Bool.{cond_both, and_parts, and_from, not-true, eq-eqb, ne_eqb, eqb-true, eqb-false, leb-true, cases_Bool, cases_eq, not_from_true, not_from_false, true≢false}
+use Rattle.std.proofs.lemmas.Bool.{cond_both, and_parts, and_from, not-true, eq-eqb, ne_eqb, eqb-true, eqb-false, leb-true, cases_eq, not_from_false}
 use Rattle.store.specs.declared.directory.Block.{Block}
 use Rattle.store.specs.declared.directory.Span.{Span}
 use Rattle.phases.specs.Phases.{SequenceNumber}

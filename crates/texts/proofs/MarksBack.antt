@@ -1,10 +1,9 @@
 -- Marks are read as they are phase_text.
-use Rattle.std.proofs.Common.{◌≡◌, ℕ, zero, suc, ◌+◌, ◌*◌, ◌/◌, ◌%◌, ◌^◌, ◌<◌, ◌≤◌, min, Bool, true, false, cond, ◌&&◌, ◌||◌, eqb, List, [], ◌∷◌, length, Some, None, sym, refl, ap, ◌∙◌, pow-suc, arith}
+use Rattle.std.proofs.Common.{◌≡◌, ℕ, zero, suc, ◌/◌, ◌%◌, ◌^◌, ◌<◌, ◌≤◌, true, length, Some, refl, ap, ◌∙◌, pow-suc, arith}
 use lib.Bits.{bit_and, and_step, and_le_l}
 use Rattle.std.proofs.lemmas.Bool.{cond-true, eq-eqb, eqb-true, and_from}
 use Rattle.std.proofs.lemmas.Bool.Decides.{nat_tests}
 use Rattle.words.proofs.Spaced.{Solid}
-use Rattle.fields.specs.declared.fields.Inputs.{Inputs}
 use Rattle.fields.specs.Fields.{is_mark, named_by, level_by, named_of, levels_of, are_marks, inputs_of}
 use Rattle.phases.specs.Phases.{LevelsFit}
 use Rattle.texts.specs.Texts.{mark, marks}

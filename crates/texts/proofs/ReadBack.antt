@@ -1,14 +1,13 @@
 -- The text of a phase reads as the same phase.
-use Rattle.std.proofs.Common.{◌≡◌, ℕ, suc, ◌^◌, ◌<◌, ◌≤◌, Bool, true, false, cond, ◌&&◌, eqb, leb, List, [], ◌∷◌, ◌++◌, ℤ, pos, negsuc, nat_abs, IfSome, Some, None, Ok, Err, codes, Option, sym, refl, ap, ◌∙◌, arith}
+use Rattle.std.proofs.Common.{◌≡◌, ℕ, suc, ◌≤◌, true, ◌&&◌, leb, List, [], ◌∷◌, ◌++◌, ℤ, pos, negsuc, nat_abs, IfSome, Some, None, Ok, codes, Option, sym, refl, ap, ◌∙◌, arith}
 use Rattle.std.proofs.lemmas.Bool.{cond-true, cond-false, and_parts, and_from, le-leb, leb-true}
 use Rattle.std.proofs.lemmas.Bool.Decides.{nat_tests}
 use Rattle.faults.specs.Faults.{and_then, past_limit, no_such_phase}
 use Rattle.words.specs.Numbers.{value_of}
 use Rattle.words.specs.Readings.{end}
 use Rattle.words.specs.Tags.{past_field}
-use Rattle.words.specs.Words.{words, spaced}
 use Rattle.words.proofs.Spaced.{Solid, AllSolid, words_spaced}
-use Rattle.replies.specs.Replies.{figures_of, hex_of}
+use Rattle.replies.specs.Replies.{figures_of}
 use Rattle.phases.specs.declared.phase.Link.{Link}
 use Rattle.phases.specs.declared.phase.Link.TheVariants as link
 use Rattle.phases.specs.declared.phase.Nature.{Nature}
@@ -23,11 +22,10 @@ use Rattle.fields.specs.declared.fields.Inputs.{Inputs}
 use Rattle.fields.specs.declared.fields.Motion.{Motion}
 use Rattle.fields.specs.declared.fields.RawLink.{RawLink}
 use Rattle.fields.specs.declared.fields.RawLink.TheVariants as raw
-use Rattle.fields.specs.declared.fields.RawPhase.{RawPhase}
-use Rattle.texts.specs.ReadBack.{Bytes, ReadsBack, sp_taken}
+use Rattle.texts.specs.ReadBack.{Bytes, ReadsBack}
 use Rattle.fields.specs.Fields.{sense_of, nature_of, set_point_of, inputs_of, amount_of, hexadecimal_of, sequence_of, sub_sequence_of, link_in, past_link, inputs_in, next_in, outputs_in, address_in, motion_in, course_in, past_course, sp_form}
 use Rattle.phases.specs.Phases.{Written, InLimits, SetPointFits, LinkFits, NextFits, LevelsFit}
-use Rattle.texts.specs.Texts.{sense_word, nature_word, sign_of, set_point_word, link_tag, link_word, next_word, outputs_word, marks, motion_words, course_words, phase_words, phase_text}
+use Rattle.texts.specs.Texts.{sense_word, nature_word, set_point_word, link_tag, link_word, next_word, outputs_word, motion_words, course_words, phase_words}
 use Rattle.values.specs.Values.{within, address_values, set_point_value, link_value, next_value, outputs_value, record_values, sp_values}
 use Rattle.texts.proofs.Figures.{figures_read, figures_solid, figures_not_xx, hex_read, hex_solid, hex_not_xx}
 use Rattle.phases.proofs.Limits.{set_point_small}

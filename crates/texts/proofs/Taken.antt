@@ -1,5 +1,5 @@
 -- What SP takes counts as written.
-use Rattle.std.proofs.Common.{◌≡◌, ℕ, ◌+◌, ◌*◌, ◌/◌, ◌%◌, ◌<◌, ◌≤◌, min, Bool, true, false, cond, ◌&&◌, eqb, leb, List, [], ◌∷◌, Some, None, Ok, Err, codes, Option, Result, sym, refl, ap, ◌∙◌, subst, arith}
+use Rattle.std.proofs.Common.{◌≡◌, ℕ, ◌+◌, ◌*◌, ◌/◌, ◌≤◌, Bool, true, false, cond, List, [], ◌∷◌, Some, None, Ok, Err, codes, Option, Result, sym, refl, ap, ◌∙◌, subst, arith}
 use lib.Bits.{bit_and, and_step}
 use Rattle.faults.specs.Faults.{and_then}
 use Rattle.std.proofs.lemmas.Bool.{eq-eqb, and_from}
@@ -21,8 +21,8 @@ use Rattle.fields.specs.declared.fields.RawLink.{RawLink}
 use Rattle.fields.specs.declared.fields.RawLink.TheVariants as raw
 use Rattle.fields.specs.declared.fields.RawPhase.{RawPhase}
 use Rattle.fields.specs.Fields.{named_by, level_by, named_of, levels_of, inputs_of, link_in, past_link, inputs_in, next_in, outputs_in, address_in, motion_in, course_in, past_course, sp_form}
-use Rattle.values.specs.Values.{within, address_values, set_point_value, link_value, next_value, outputs_value, record_values, sp_values}
-use Rattle.texts.specs.ReadBack.{TakesWritten, sp_taken}
+use Rattle.values.specs.Values.{address_values, set_point_value, link_value, next_value, outputs_value, record_values, sp_values}
+use Rattle.texts.specs.ReadBack.{TakesWritten}
 
 -- a reading that succeeds has succeeded in its first part
 then_ok : {A B : Type 0} (r : Result A Fault) (f : A → Result B Fault) (b : B) → and_then r f ≡ Ok b → (a : A) × ((r ≡ Ok a) × (f a ≡ Ok b))

@@ -1,5 +1,5 @@
 -- A phase that is written reads back.
-use Rattle.std.specs.Prelude.{◌≡◌, ℕ, ◌≤◌, true, List, IfSome, Ok, Err, codes, Option, Result}
+use Rattle.std.specs.Prelude.{◌≡◌, ℕ, ◌≤◌, true, List, IfSome, Ok, codes, Option, Result}
 use Rattle.faults.specs.Faults.{and_then}
 use Rattle.faults.specs.declared.Fault.{Fault}
 use Rattle.words.specs.Words.{words}

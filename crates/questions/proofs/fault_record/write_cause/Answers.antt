@@ -1,4 +1,4 @@
-use Rattle.std.proofs.Common.{◌≡◌, sym, ap, ◌∙◌, ap₂, arith, rules}
+use Rattle.std.proofs.Common.{◌≡◌, sym, ap, ◌∙◌, ap₂, arith}
 use Rattle.faults.specs.Faults.{number_of}
 use Rattle.replies.specs.Replies.{figures_of}
 use Rattle.replies.proofs.Writes.{wrote_as}

@@ -1,5 +1,4 @@
 use Rattle.std.proofs.Common.{[], ◌∷◌, ap, rules}
-use Rattle.replies.specs.Replies.{figures_of}
 use Rattle.replies.proofs.Writes.{wrote_then, wrote_as}
 use Rattle.questions.specs.Questions.{distance_words}
 use Rattle.questions.proofs.parameters.write_distance.Goals as goal

@@ -1,4 +1,4 @@
-use Rattle.std.proofs.Common.{ap, arith, rules}
+use Rattle.std.proofs.Common.{ap, rules}
 use Rattle.replies.specs.Replies.{figures_of}
 use Rattle.replies.proofs.Writes.{wrote_then, wrote_as}
 use Rattle.texts.specs.Texts.{rs_text}

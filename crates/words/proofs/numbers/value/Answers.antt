@@ -1,4 +1,4 @@
-use Rattle.std.proofs.Common.{◌≡◌, ◌+◌, ◌*◌, ◌^◌, ◌<◌, ◌≤◌, length, get_or, drop, sym, ap, ◌∙◌, arith, false-eqb}
+use Rattle.std.proofs.Common.{◌≡◌, ◌+◌, ◌*◌, ◌^◌, ◌<◌, get_or, drop, sym, ap, ◌∙◌, arith, false-eqb}
 use Rattle.words.specs.Numbers.{figure_value, value_from}
 use Rattle.words.proofs.Values.{value_more, value_stop, value_all, value_long, figure_below, some_then, none_then, grown, within, within_le}
 use Rattle.words.proofs.numbers.value.Goals as goal

@@ -1,4 +1,4 @@
-use Rattle.std.proofs.Common.{◌-◌, ◌/◌, ◌^◌, mul-le-mul_right, arith}
+use Rattle.std.proofs.Common.{◌/◌, ◌^◌, mul-le-mul_right, arith}
 use Rattle.outputs.proofs.Whole.{filled, one_less, some}
 use Rattle.outputs.proofs.cycle_counter.CycleCounter.back.Goals as goal
 

@@ -1,5 +1,4 @@
-use Rattle.std.proofs.Common.{◌+◌, ◌≤◌, is_ok, sym, ap, arith}
-use Rattle.store.specs.Blocks.{reserved}
+use Rattle.std.proofs.Common.{is_ok, sym, ap, arith}
 use Rattle.store.specs.Directories.{sequences}
 use Rattle.store.proofs.Asked.{created}
 use Rattle.store.proofs.Sound.{sound_push}

@@ -1,4 +1,4 @@
-use Rattle.std.proofs.Common.{Ok, Err, sym, ap, ◌∙◌}
+use Rattle.std.proofs.Common.{Err, sym, ap, ◌∙◌}
 use Rattle.words.specs.Readings.{end_at}
 use Rattle.words.specs.Words.{first}
 use Rattle.words.proofs.Split.{words_some}
