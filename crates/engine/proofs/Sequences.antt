@@ -1,6 +1,6 @@
 -- A run is always in a sequence that exists.
 use Rattle.std.proofs.Common.{ℕ, ◌≤◌, Bool, true, false, eqb, ltb, leb, List, [], ◌∷◌, length, pos, Some, None, Ok, Err, Option, Result, arith}
-use Rattle.std.specs.List.{AllByRecursion as All}
+use Rattle.std.specs.List.{AllByRecursion}
 use Rattle.std.proofs.lemmas.Bool.{cond_both, ltb-true}
 use Rattle.faults.specs.declared.Fault.{Fault}
 use Rattle.phases.specs.declared.phase.Phase.{Phase}
@@ -28,7 +28,7 @@ abbrev ResultIn : Program → Result (Option Progress) Fault → Type 0
 ResultIn g (Ok r) = InSequences g r
 ResultIn g (Err x) = Unit {0}
 
-in_goes_on : (g : Program) (c : Progress) (q : Next) → NextInSequence g q → All (NextInSequence g) c.returns → length c.returns ≤ 4 → InSequences g (goes_on c q)
+in_goes_on : (g : Program) (c : Progress) (q : Next) → NextInSequence g q → AllByRecursion (NextInSequence g) c.returns → length c.returns ≤ 4 → InSequences g (goes_on c q)
 in_goes_on g c End r a l = tt
 in_goes_on g c (At q) r a l = (r, a, l)
 
@@ -79,7 +79,7 @@ module _ (g : Program) (t : Moment) (c : Progress) (p : Phase) (s : InSequences 
   in_starts PowerOn = in_left g t.levels c p s (entered p)
   in_starts PowerOff = in_left g t.levels c p s (entered p)
 
-in_returns : (g : Program) (c : Progress) (qs : List Next) → All (NextInSequence g) qs → length qs ≤ 4 → InSequences g (returns_from c qs)
+in_returns : (g : Program) (c : Progress) (qs : List Next) → AllByRecursion (NextInSequence g) qs → length qs ≤ 4 → InSequences g (returns_from c qs)
 in_returns g c [] a l = tt
 in_returns g c (q ∷ qs) a l = in_goes_on g (with_returns c qs) q a.0 a.1 (omega arith)
 

@@ -1,6 +1,6 @@
 -- Whole runs.
 use Rattle.std.specs.Prelude.{◌≡◌, ℕ, ◌+◌, ◌*◌, ◌<◌, ◌≤◌, Bool, true, false, cond, List, [], ◌∷◌, length, ℤ, is_some, Some, None, Option, ◌==◌, unsigned_abs}
-use Rattle.std.specs.List.{AllByRecursion as All}
+use Rattle.std.specs.List.{AllByRecursion}
 use Rattle.phases.specs.declared.phase.Phase.{Phase}
 use Rattle.phases.specs.declared.phase.Nature.TheVariants.{Wait}
 use Rattle.phases.specs.Phases.{Written}
@@ -51,7 +51,7 @@ NextInSequence g (At q) = InSequence g q
 
 abbrev pub InSequences : Program → Option Progress → Type 0
 InSequences g None = Unit {0}
-InSequences g (Some c) = InSequence g c.at × All (NextInSequence g) c.returns × (length c.returns ≤ 4)
+InSequences g (Some c) = InSequence g c.at × AllByRecursion (NextInSequence g) c.returns × (length c.returns ≤ 4)
 
 -- so is every run that begins in a sequence that exists
 abbrev pub RunsInSequences : ℕ → Progress → Type 0

@@ -8,7 +8,7 @@ use outputs::StepOutput;
 mod calls;
 mod finish;
 mod readings;
-mod replies;
+mod answers;
 
 #[derive(Drop)]
 pub struct Module<O: StepOutput> {

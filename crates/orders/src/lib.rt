@@ -3,9 +3,9 @@
 
 mod order;
 mod rows;
-mod state;
-mod store;
-mod values;
+mod state_row;
+mod store_row;
+mod values_row;
 
 pub use order::{Order, Situation};
 pub use rows::judge;

@@ -5,9 +5,9 @@ ghost use Rattle.lines.specs.Lines.{kept};
 ghost use Rattle.orders.specs.Judged.{ordered, judged};
 
 use crate::order::{Order, Situation};
-use crate::state::check_state;
-use crate::store::check_store;
-use crate::values::check_values;
+use crate::state_row::check_state;
+use crate::store_row::check_store;
+use crate::values_row::check_values;
 use commands::read_command;
 use faults::Fault;
 use lines::{Addressee, Line};

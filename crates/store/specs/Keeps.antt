@@ -1,6 +1,6 @@
 -- What the store means: each sequence has its phases, and a command that does not name a sequence leaves them.
 use Rattle.std.specs.Prelude.{◌≡◌, ℕ, ◌-◌, ◌≤◌, true, cond, ◌&&◌, List, [], ◌∷◌, length, take, drop, replicate, is_ok, Some, None, Ok, Err, Option, Result, ◌==◌, ◌≢◌, nat_le, slice_index_or, slice_set}
-use Rattle.std.specs.List.{AllByRecursion as All}
+use Rattle.std.specs.List.{AllByRecursion}
 use Rattle.store.specs.declared.directory.Block.{Block}
 use Rattle.faults.specs.declared.Fault.{Fault}
 use Rattle.faults.specs.Faults.{no_sequence, past_reserve, memory_full}
@@ -47,7 +47,7 @@ Spares n (SP other np p) = other ≡ n → ⊥
 
 -- whatever is done to the others, a sequence keeps every phase
 abbrev pub Keeps : Type 0
-Keeps = (cs : List Command) (s : Store) (n : ℕ) → Fit s → All (Spares n) cs → phases (run cs s).blocks (run cs s).records n ≡ phases s.blocks s.records n
+Keeps = (cs : List Command) (s : Store) (n : ℕ) → Fit s → AllByRecursion (Spares n) cs → phases (run cs s).blocks (run cs s).records n ≡ phases s.blocks s.records n
 
 -- phase np of a sequence, as RS tells it
 abbrev pub told : Option (List Phase) → ℕ → Result (Option Phase) Fault
