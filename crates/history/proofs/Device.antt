@@ -1,23 +1,22 @@
 -- The module keeps what the law of histories asks of a device.
-use Rattle.std.proofs.Common.{◌≡◌, ℕ, ◌+◌, ◌-◌, ◌%◌, ◌^◌, ◌<◌, ◌≤◌, Bool, true, false, cond, ◌||◌, List, [], ◌∷◌, ◌++◌, ℤ, pos, negsuc, ◌+ℤ◌, ◌≤ℤ◌, Some, None, Ok, Err, fold, Option, Result, unwrap_or, sym, refl, ap, ◌∙◌, subst, arith}
+use Rattle.std.proofs.Common.{◌≡◌, ℕ, ◌<◌, Bool, true, false, cond, ◌||◌, List, [], ◌∷◌, ◌++◌, ℤ, pos, ◌+ℤ◌, Some, None, Ok, Err, fold, Option, Result, unwrap_or, sym, refl, ap, ◌∙◌, subst, arith}
 use borrow.Author.Differences.{ints}
 use lib.IntN.{+ℤ_idr}
 use Rattle.std.proofs.lemmas.List.{append-nil, append_assoc}
 use Rattle.std.proofs.lemmas.Bool.{false≢true}
-use Rattle.std.specs.Int.{int_rem_euclid}
 use Rattle.faults.specs.declared.Fault.{Fault}
 use Rattle.senses.specs.declared.Sense.{Sense}
 use Rattle.senses.specs.declared.Sense.TheVariants.{Forward as Ahead, Back as Behind}
 use Rattle.lines.specs.declared.line.Addressee.{Addressee}
 use Rattle.lines.specs.declared.line.Addressee.TheVariants.{Own, Broadcast, Stranger}
-use Rattle.lines.specs.Characters.{Character, is_own, is_broadcast, addressee_of}
+use Rattle.lines.specs.Characters.{Character, is_own, is_broadcast}
 use Rattle.lines.specs.Lines.{Kept, kept_of, taken, addressee_in}
 use Rattle.lines.proofs.KeptOf.{taken_of, kept_addressee}
 use Rattle.replies.specs.Replies.{figures_of}
-use Rattle.questions.specs.Questions.{fault_text, fault_word}
+use Rattle.questions.specs.Questions.{fault_text}
 use Rattle.outputs.specs.Meaning.{moved}
 use Rattle.axis.specs.Wrap.{wrapped24, modulo24}
-use Rattle.axis.specs.Axes.{AxisState, one_step, axis_stepped}
+use Rattle.axis.specs.Axes.{AxisState, one_step}
 use Rattle.axis.proofs.Wrap.{wrapped_fits, wrapped_twice}
 use Rattle.axis.proofs.Alike.{moved_modulo}
 use Rattle.engine.specs.declared.effects.Effects.{Effects}
@@ -25,19 +24,19 @@ use Rattle.engine.specs.declared.effects.Power.{Power}
 use Rattle.engine.specs.declared.effects.Power.TheVariants.{On, Off}
 use Rattle.orders.specs.declared.order.Order.{Order}
 use Rattle.orders.specs.declared.order.Order.TheVariants.{StartSpeed, PlateauSpeed, Slope, Distance, Forward, Back, ZeroCounter, SetCounter, Move, MoveToOrigin, MoveTo, SlowStop, PowerOn, PowerOff, SetOutputs, Create, Erase, Choose, Start, Write, ReadPhase, Restart, ReadParameters, ReadPosition, ReadVersion, ReadFault}
-use Rattle.orders.specs.Judged.{judged, judged_to}
+use Rattle.orders.specs.Judged.{judged_to}
 use Rattle.orders.proofs.Accepted.{Within, CounterFits, accepted_fits}
 use Rattle.control.specs.declared.control.Change.{Change}
-use Rattle.control.specs.States.{State, situation}
+use Rattle.control.specs.States.{situation}
 use Rattle.control.specs.Obeyed.{order_change, restart_change}
 use Rattle.control.proofs.Kept.{obeyed_address, ticked_address, restarted_keeps}
 use Rattle.law.specs.Events.{heeded}
 use Rattle.law.specs.Law.{besides_fault}
 use Rattle.law.specs.Machine.{Outcome}
-use Rattle.law.specs.Machine.Outcome.{ignored, accepted, restarted, asks_fault, refused}
+use Rattle.law.specs.Machine.Outcome.{ignored, accepted, restarted, asks_fault}
 use Rattle.law.proofs.Machines.{MachineLawful, left}
-use Rattle.module.specs.Rests.{Rest, powered, counted, changed, stepped, step_made, zeroed, affected, step_of, obeyed_rest, effects_of, ticked_rest}
-use Rattle.module.specs.Lines.{asks, clears, order_outcome, outcome_of, judged_line, line_outcome}
+use Rattle.module.specs.Rests.{Rest, powered, counted, changed, stepped, step_made, zeroed, step_of, obeyed_rest, effects_of, ticked_rest}
+use Rattle.module.specs.Lines.{asks, clears, outcome_of, judged_line, line_outcome}
 use Rattle.module.specs.Machine.{machine, counter_set}
 
 choose : {A : Type 0} (P : A → Type 0) (b : Bool) (x y : A) → P x → P y → P (cond b x y)

@@ -1,5 +1,5 @@
 -- A call that is handed the first `lent` of the 414 records is the call with the whole memory, or it is refused.
-use Rattle.std.proofs.Common.{◌≡◌, ℕ, ◌+◌, ◌≤◌, min, Bool, true, false, cond, not, ◌&&◌, eqb, ltb, ◌⊎◌, List, [], ◌++◌, length, take, drop, Ok, Err, Result, sym, refl, ap, ◌∙◌, inl, inr, ⊎_elim, arith}
+use Rattle.std.proofs.Common.{◌≡◌, ℕ, ◌+◌, ◌≤◌, min, Bool, true, false, cond, eqb, ltb, List, ◌++◌, length, take, drop, Ok, Err, Result, sym, refl, ap, ◌∙◌, ⊎_elim, arith}
 use Rattle.std.proofs.lemmas.List.{append-nil, append_assoc, take_all, drop_all, take-append-drop, take_at, length-take-le}
 use Rattle.std.proofs.lemmas.Bool.{ne_eqb, cases_eq, cases_lt, lt-ltb, le-ltb}
 use Rattle.faults.specs.declared.Fault.{Fault}
@@ -8,12 +8,12 @@ use Rattle.phases.specs.declared.phase.Phase.{Phase}
 use Rattle.replies.specs.Replies.{over}
 use Rattle.law.specs.Events.{Event, Answer, handed, with_room, received}
 use Rattle.law.specs.Events.Event.{stopped, skipped, letter, ending, tick, levels, power_up}
-use Rattle.law.specs.Events.Answer.{refused, reply, ticked, done}
+use Rattle.law.specs.Events.Answer.{refused, reply}
 use Rattle.law.specs.History.{State, at, next, answer}
 use Rattle.law.specs.Machine.{keep}
 use Rattle.module.specs.Rests.{rest_of}
 use Rattle.module.specs.Machine.{machine, module_device}
-use Rattle.module.specs.Views.{character_answer, tick_answer, plain_answer, caller_fault}
+use Rattle.module.specs.Views.{character_answer, tick_answer, plain_answer}
 use Rattle.history.specs.Histories.{plain_shown, tick_shown}
 
 module _ (cycle : ℕ) where

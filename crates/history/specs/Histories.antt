@@ -1,19 +1,19 @@
 -- A whole history: the module that it begins with, and what its calls answer.
-use Rattle.std.specs.Prelude.{ℕ, Bool, true, false, ◌&&◌, List, take, ℤ, None, Ok, Err, Result, ◌==◌, nat_le}
+use Rattle.std.specs.Prelude.{ℕ, Bool, ◌&&◌, List, take, ℤ, None, Ok, Err, Result, ◌==◌, nat_le}
 use Rattle.faults.specs.declared.Fault.{Fault}
 use Rattle.faults.specs.Faults.{number_of}
 use Rattle.phases.specs.declared.phase.Phase.{Phase}
 use Rattle.outputs.specs.Meaning.{Meaning}
 use Rattle.law.specs.Events.{Answer as Answered}
 use Rattle.law.specs.Events.Answer.{refused, reply, ticked, done}
-use Rattle.law.specs.Machine.{Kept as With-fault, keep}
+use Rattle.law.specs.Machine.{Kept as WithFault, keep}
 use Rattle.module.specs.Machine.{machine}
 use Rattle.module.specs.Views.{new_rest, addressed}
 use Rattle.history.specs.declared.answer.Answer.{Answer}
 use Rattle.history.specs.declared.answer.Answer.TheVariants.{Refused, Reply, Ticked, Done}
 
 -- a module made new over an output of this meaning, and set to its address, over these records
-abbrev pub begun : (cycle : ℕ) → ℕ → Meaning → List Phase → With-fault (machine cycle)
+abbrev pub begun : (cycle : ℕ) → ℕ → Meaning → List Phase → WithFault (machine cycle)
 begun cycle address m records = keep (machine cycle) (addressed (new_rest m records) address) None
 
 -- what the answers of the code mean

@@ -12,15 +12,13 @@ use Rattle.orders.specs.declared.order.Order.TheVariants.{StartSpeed, PlateauSpe
 use Rattle.control.specs.States.{State, Doing, resting, moving, running, moves_on}
 use Rattle.control.specs.Ticks.{ticked}
 use Rattle.control.specs.Obeyed.{moves_to, slowed, cut_off, restarted, acted, stored, obeyed}
-use Rattle.law.specs.Events.{Event}
 use Rattle.law.specs.Events.Event.{stopped, skipped, letter, ending, tick, levels, power_up}
-use Rattle.law.specs.History.{State as Whole}
-use Rattle.law.specs.Machine.{Kept as With-fault, Outcome, done_by}
-use Rattle.law.specs.Machine.Outcome.{ignored, accepted, restarted as cleared, asks_fault, refused}
+use Rattle.law.specs.Machine.{Kept as WithFault, done_by}
+use Rattle.law.specs.Machine.Outcome.{accepted, restarted as cleared, asks_fault}
 use Rattle.module.specs.Rests.{Rest, obeyed_rest, ticked_rest}
 use Rattle.module.specs.Lines.{asks, clears, outcome_of, judged_line, line_outcome}
-use Rattle.module.specs.Machine.{machine, module_device}
-use Rattle.laws.specs.Called.{runs, calls_order, calls_line, calls, RunsOnlyWhenCalled}
+use Rattle.module.specs.Machine.{machine}
+use Rattle.laws.specs.Called.{runs, calls_order, calls_line, RunsOnlyWhenCalled}
 
 moves_on_rests : (s : State) (m : Option Motion) → runs (moves_on s m).doing ≡ false
 moves_on_rests s None = refl
@@ -112,7 +110,7 @@ ticked_rests s m counter resting h k = h
 ticked_rests s m counter (moving mo) h k = moves_on_rests s (tick_rest mo)
 ticked_rests s m counter (running r) h k = never k refl
 
-module _ (cycle : ℕ) (c : With-fault (machine cycle)) (h : runs c.rest.control.doing ≡ false) where
+module _ (cycle : ℕ) (c : WithFault (machine cycle)) (h : runs c.rest.control.doing ≡ false) where
   order_called : (o : Order) (t u : List ℕ) (a b : Bool) →
       runs (done_by (machine cycle) c (cond a asks_fault (cond b (cleared (obeyed_rest c.rest o) t) (accepted (obeyed_rest c.rest o) u)))).0.rest.control.doing ≡ true →
       calls_order c.rest.control.chosen o ≡ true

@@ -5,7 +5,7 @@ use Rattle.senses.specs.declared.Sense.{Sense}
 use Rattle.lines.specs.declared.line.Addressee.{Addressee}
 use Rattle.lines.specs.Lines.{Kept, addressee_in}
 use Rattle.phases.specs.declared.phase.Phase.{Phase}
-use Rattle.motion.specs.Motions.{Motion, begun, stopped as slow, tick_rest, tick_step}
+use Rattle.motion.specs.Motions.{Motion, stopped as slow, tick_rest, tick_step}
 use Rattle.axis.specs.Axes.{AxisState, one_step}
 use Rattle.engine.specs.declared.effects.Effects.{Effects}
 use Rattle.engine.specs.declared.effects.Power.{Power}
@@ -17,13 +17,13 @@ use Rattle.orders.specs.declared.order.Order.{Order}
 use Rattle.orders.specs.declared.order.Order.TheVariants.{StartSpeed, PlateauSpeed, Slope, Distance, Forward, Back, ZeroCounter, SetCounter, Move, MoveToOrigin, MoveTo, SlowStop, PowerOn, PowerOff, SetOutputs, Create, Erase, Choose, Start, Write, ReadPhase, Restart, ReadParameters, ReadPosition, ReadVersion, ReadFault}
 use Rattle.control.specs.States.{State, Doing, resting, moving, running, moves_on, runs_on, with_set_outputs}
 use Rattle.control.specs.Ticks.{run_outcome, ticked, tick_effects}
-use Rattle.control.specs.Obeyed.{slowed, cut_off, restarted, acted, stored, obeyed, order_change, restart_change}
+use Rattle.control.specs.Obeyed.{slowed, cut_off, restarted, acted, obeyed, order_change, restart_change}
 use Rattle.law.specs.Events.{Event}
 use Rattle.law.specs.Events.Event.{stopped, skipped, letter, ending, tick, levels, power_up}
-use Rattle.law.specs.History.{State as Whole, next, after}
-use Rattle.law.specs.Machine.{Kept as With-fault, Outcome, done_by}
-use Rattle.law.specs.Machine.Outcome.{ignored, accepted, restarted as cleared, asks_fault, refused}
-use Rattle.module.specs.Rests.{Rest, powered, counted, changed, stepped, step_made, zeroed, affected, step_of, obeyed_rest, effects_of, ticked_rest, restarted_rest}
+use Rattle.law.specs.History.{State as Whole, next}
+use Rattle.law.specs.Machine.{Kept as WithFault, done_by}
+use Rattle.law.specs.Machine.Outcome.{accepted, restarted as cleared, asks_fault}
+use Rattle.module.specs.Rests.{Rest, powered, changed, stepped, step_made, zeroed, affected, step_of, obeyed_rest, ticked_rest}
 use Rattle.module.specs.Lines.{asks, clears, outcome_of, judged_line, line_outcome}
 use Rattle.module.specs.Machine.{machine, module_device}
 use Rattle.laws.specs.Powered.{DoingPowered, HasPower, PowerWhileMoving, step_due, NoStepRefused}
@@ -101,7 +101,7 @@ obeyed_power r o h =
     (acted_power r.control r.axis r.axis.counter o h)
 
 -- a finished line
-module _ (cycle : ℕ) (c : With-fault (machine cycle)) (h : HasPower c.rest) where
+module _ (cycle : ℕ) (c : WithFault (machine cycle)) (h : HasPower c.rest) where
   order_power : (o : Order) (t u : List ℕ) (a b : Bool) → HasPower (done_by (machine cycle) c (cond a asks_fault (cond b (cleared (obeyed_rest c.rest o) t) (accepted (obeyed_rest c.rest o) u)))).0.rest
   order_power o t u true b = h
   order_power o t u false true = obeyed_power c.rest o h

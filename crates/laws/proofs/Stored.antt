@@ -1,16 +1,14 @@
 -- RS tells what SP stored.
-use Rattle.std.proofs.Common.{◌≡◌, ℕ, true, cond, eqb, List, length, is_ok, Some, None, Ok, Err, Result, sym, refl, ap, ◌∙◌}
+use Rattle.std.proofs.Common.{◌≡◌, eqb, List, length, Ok, Err, ap, ◌∙◌}
 use Rattle.std.proofs.lemmas.Bool.{eq-eqb, cond-true}
 use Rattle.faults.specs.Faults.{and_then, wrong_memory}
 use Rattle.phases.specs.declared.phase.Phase.{Phase}
-use Rattle.phases.specs.Phases.{Written}
-use Rattle.store.specs.Keeps.{Store, Fit}
-use Rattle.store.specs.Records.{lent, located, write_answer, rewritten, read_answer}
+use Rattle.store.specs.Records.{lent, located, rewritten, read_answer}
 use Rattle.store.proofs.Kept.{reads_written, length_rewritten}
 use Rattle.texts.specs.Texts.{rs_text}
-use Rattle.orders.specs.declared.order.Order.TheVariants.{Write, ReadPhase}
-use Rattle.control.specs.Obeyed.{acted, stored, obeyed, stored_records}
-use Rattle.module.specs.Rests.{Rest, obeyed_rest}
+use Rattle.orders.specs.declared.order.Order.TheVariants.{Write}
+use Rattle.control.specs.Obeyed.{obeyed, stored_records}
+use Rattle.module.specs.Rests.{obeyed_rest}
 use Rattle.module.specs.Lines.{phase_found, phase_reply, order_reply}
 use Rattle.laws.specs.Stored.{store_of, TellsWhatWasStored}
 

@@ -1,5 +1,5 @@
 -- A sequence runs only when it is called.
-use Rattle.std.specs.Prelude.{◌≡◌, ℕ, Bool, true, false, cond, is_some, Some, None, Ok, Err, Option, Result}
+use Rattle.std.specs.Prelude.{◌≡◌, ℕ, Bool, true, false, is_some, Some, None, Ok, Err, Option, Result}
 use Rattle.faults.specs.declared.Fault.{Fault}
 use Rattle.orders.specs.declared.order.Order.{Order}
 use Rattle.orders.specs.declared.order.Order.TheVariants.{StartSpeed, PlateauSpeed, Slope, Distance, Forward, Back, ZeroCounter, SetCounter, Move, MoveToOrigin, MoveTo, SlowStop, PowerOn, PowerOff, SetOutputs, Create, Erase, Choose, Start, Write, ReadPhase, Restart, ReadParameters, ReadPosition, ReadVersion, ReadFault}
@@ -7,7 +7,6 @@ use Rattle.control.specs.States.{Doing, resting, moving, running}
 use Rattle.law.specs.Events.{Event}
 use Rattle.law.specs.Events.Event.{stopped, skipped, letter, ending, tick, levels, power_up}
 use Rattle.law.specs.History.{State, next}
-use Rattle.module.specs.Rests.{Rest}
 use Rattle.module.specs.Lines.{judged_line}
 use Rattle.module.specs.Machine.{module_device}
 

@@ -5,7 +5,7 @@ use Rattle.axis.specs.Axes.{one_step}
 use Rattle.engine.specs.Whole.{ActivityPowered}
 use Rattle.control.specs.States.{Doing, resting, moving, running}
 use Rattle.law.specs.Events.{Event}
-use Rattle.law.specs.History.{State, next, after}
+use Rattle.law.specs.History.{State, after}
 use Rattle.module.specs.Rests.{Rest, effects_of, step_of}
 use Rattle.module.specs.Machine.{module_device}
 

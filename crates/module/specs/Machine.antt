@@ -1,5 +1,5 @@
 -- The module as a machine of the law of histories.
-use Rattle.std.specs.Prelude.{ℕ, Bool, cond, List, [], ℤ, pos, Some, None, Ok, Err, Option, Result}
+use Rattle.std.specs.Prelude.{ℕ, [], ℤ, Some, None, Ok, Err, Option, Result}
 use Rattle.faults.specs.declared.Fault.{Fault}
 use Rattle.lines.specs.Lines.{Kept, kept_of, taken}
 use Rattle.questions.specs.Questions.{fault_text}

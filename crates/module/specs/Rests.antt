@@ -1,16 +1,14 @@
 -- All of a module but its line and its fault record, with the lent records: what orders and ticks do to it.
 use Rattle.std.specs.Prelude.{ℕ, Bool, true, false, cond, List, ℤ, pos, Some, None, Option}
-use Rattle.faults.specs.declared.Fault.{Fault}
 use Rattle.senses.specs.declared.Sense.{Sense}
 use Rattle.phases.specs.declared.phase.Phase.{Phase}
-use Rattle.outputs.specs.Meaning.{Meaning}
 use Rattle.axis.specs.Axes.{AxisState, one_step, axis_stepped, with_counter, with_power}
 use Rattle.engine.specs.declared.effects.Effects.{Effects}
 use Rattle.engine.specs.declared.effects.Power.{Power}
 use Rattle.engine.specs.declared.effects.Power.TheVariants.{On, Off}
 use Rattle.orders.specs.declared.order.Order.{Order}
 use Rattle.control.specs.declared.control.Change.{Change}
-use Rattle.control.specs.States.{State, is_busy, with_levels}
+use Rattle.control.specs.States.{State, with_levels}
 use Rattle.control.specs.Ticks.{tick_effects, ticked}
 use Rattle.control.specs.Obeyed.{obeyed, stored_records, order_change, restart_change, restarted}
 

@@ -1,8 +1,8 @@
 -- The state of a module in the code, given what its output means, and what its calls answer.
-use Rattle.std.specs.Prelude.{ℕ, Bool, true, false, cond, List, [], ◌∷◌, length, ℤ, Some, None, Ok, Err, Option, Result, ◌==◌, nat_le}
+use Rattle.std.specs.Prelude.{ℕ, Bool, cond, List, length, ℤ, Ok, Err, Result, ◌==◌, nat_le}
 use Rattle.faults.specs.declared.Fault.{Fault}
 use Rattle.faults.specs.Faults.{wrong_memory, short_reply, wrong_address}
-use Rattle.lines.specs.Lines.{Kept, kept, kept_of}
+use Rattle.lines.specs.Lines.{kept}
 use Rattle.phases.specs.declared.phase.Phase.{Phase}
 use Rattle.replies.specs.Replies.{over}
 use Rattle.outputs.specs.Meaning.{Meaning}
@@ -11,7 +11,7 @@ use Rattle.control.specs.States.{state, initial, with_address}
 use Rattle.law.specs.Events.{Answer}
 use Rattle.law.specs.Events.Answer.{refused, reply, ticked, done}
 use Rattle.law.specs.History.{State, at}
-use Rattle.law.specs.Machine.{Kept as With-fault, keep}
+use Rattle.law.specs.Machine.{Kept as WithFault, keep}
 use Rattle.module.specs.declared.module.Module.{Module}
 use Rattle.module.specs.Rests.{Rest, rest_of}
 use Rattle.module.specs.Machine.{machine, module_device}
@@ -20,7 +20,7 @@ module _ {O : Type 0} where
   abbrev pub rest_in : (O → Meaning) → Module O → List Phase → Rest
   rest_in meaning m records = rest_of (state m.control) (axis_state meaning m.axis) records
 
-  abbrev pub core_in : (cycle : ℕ) → (O → Meaning) → Module O → List Phase → With-fault (machine cycle)
+  abbrev pub core_in : (cycle : ℕ) → (O → Meaning) → Module O → List Phase → WithFault (machine cycle)
   core_in cycle meaning m records = keep (machine cycle) (rest_in meaning m records) m.fault
 
   abbrev pub state_in : (cycle : ℕ) → (O → Meaning) → Module O → List Phase → State (module_device cycle)

@@ -145,7 +145,10 @@ fn wanted(name: &[u8]) -> Expected {
         Expected::Room
     } else if name == b"lent".as_slice() {
         Expected::Lent
-    } else if name == b"fault".as_slice() || name == b"state".as_slice() || name == b"power-up".as_slice() {
+    } else if name == b"fault".as_slice()
+        || name == b"state".as_slice()
+        || name == b"power-up".as_slice()
+    {
         Expected::Alone
     } else {
         Expected::Order

@@ -1,5 +1,5 @@
 -- The shelf as a list of the phases that are meant.
-use Rattle.std.specs.Prelude.{ℕ, ◌+◌, Bool, true, false, cond, ◌&&◌, ◌||◌, List, [], ◌∷◌, ◌++◌, Some, None, Ok, Err, Option, Result, ◌==◌, nat_le, slice_set}
+use Rattle.std.specs.Prelude.{ℕ, ◌+◌, Bool, false, cond, ◌&&◌, ◌||◌, List, [], ◌∷◌, ◌++◌, Some, None, Ok, Err, Option, Result, ◌==◌, nat_le, slice_set}
 use Rattle.faults.specs.declared.Fault.{Fault}
 use Rattle.sheet.specs.Counts.{sifted}
 use Rattle.sheet.specs.declared.shelf.Meant.{Meant}

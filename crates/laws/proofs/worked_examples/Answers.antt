@@ -1,15 +1,11 @@
-use Rattle.std.proofs.Common.{◌≡◌, true, List, refl}
-use Rattle.faults.specs.Faults.{memory_full}
+use Rattle.std.proofs.Common.{refl}
 use Rattle.replies.specs.Replies.{figures_of}
 use Rattle.questions.specs.Questions.{fault_text, fault_word}
 use Rattle.axis.specs.Wrap.{wrapped24, modulo24}
 use Rattle.words.specs.Readings.{only_unsigned, two_unsigned}
 use Rattle.commands.specs.Reading.{read_from}
 use Rattle.values.specs.Values.{address_values}
-use Rattle.store.specs.declared.directory.Block.{Block}
-use Rattle.store.specs.Blocks.{reserved, absent}
 use Rattle.orders.specs.Judged.{ordered}
-use Rattle.laws.specs.Examples.{WorkedExamples}
 use Rattle.laws.proofs.worked_examples.Goals as goal
 
 pub returns : goal.returns

@@ -1,4 +1,4 @@
-use Rattle.std.proofs.Common.{[], length, ◌∙◌, arith, rules}
+use Rattle.std.proofs.Common.{[], length, ◌∙◌, rules}
 use Rattle.module.specs.Views.{state_in}
 use Rattle.history.proofs.Handed.{told_capped, moved_capped}
 use Rattle.history.proofs.calls.character.Goals as goal

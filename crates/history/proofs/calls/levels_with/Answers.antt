@@ -1,6 +1,6 @@
 use Rattle.std.proofs.Common.{length, take, sym, ap, ◌∙◌, arith}
 use Rattle.std.proofs.lemmas.List.{take-append-drop}
-use Rattle.law.specs.Events.Event.{tick, levels, power_up}
+use Rattle.law.specs.Events.Event.{levels}
 use Rattle.module.specs.Views.{state_in}
 use Rattle.history.specs.Histories.{plain_shown}
 use Rattle.history.proofs.Handed.{onto, part_moved, part_told, told_levels}

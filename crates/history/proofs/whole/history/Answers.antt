@@ -1,4 +1,4 @@
-use Rattle.std.proofs.Common.{◌≡◌, ℕ, ◌<◌, ◌≤◌, false, List, [], ◌∷◌, ◌++◌, map, length, get_or, take, drop, sym, refl, ap, ◌∙◌, ap₂, arith, rules}
+use Rattle.std.proofs.Common.{◌≡◌, ◌<◌, false, [], ◌∷◌, ◌++◌, map, length, get_or, take, sym, refl, ap, ◌∙◌, ap₂, arith, rules}
 use Rattle.std.proofs.lemmas.List.{take_all, take_more_set, map_push, drop-set-lt}
 use Rattle.law.specs.Events.{event}
 use Rattle.law.specs.History.{State, next, answer, after, answers}
@@ -7,7 +7,7 @@ use Rattle.law.specs.declared.Call.TheVariants.{Character}
 use Rattle.law.proofs.Steps.{after_more, answers_more}
 use Rattle.module.specs.Machine.{module_device}
 use Rattle.module.specs.Views.{state_in}
-use Rattle.history.specs.Histories.{begun, shown}
+use Rattle.history.specs.Histories.{shown}
 use Rattle.history.proofs.Lawful.{module_law}
 use Rattle.history.proofs.whole.history.Goals as goal
 

@@ -1,4 +1,4 @@
-use Rattle.std.proofs.Common.{◌≡◌, ◌+◌, Bool, drop, sym, ap, ◌∙◌, arith}
+use Rattle.std.proofs.Common.{◌+◌, Bool, drop, ap, ◌∙◌, arith}
 use Rattle.sheet.specs.declared.verdict.ShelfPhase.{ShelfPhase}
 use Rattle.sheet.specs.Counts.{count_of}
 use Rattle.sheet.specs.Verdicts.{is_stored}

@@ -1,4 +1,4 @@
-use Rattle.std.proofs.Common.{◌≡◌, ◌+◌, ◌++◌, drop, vec_items, sym, ap, ◌∙◌}
+use Rattle.std.proofs.Common.{◌+◌, ◌++◌, drop, vec_items, sym, ap, ◌∙◌}
 use Rattle.sheet.specs.Shelves.{erases, kept_of}
 use Rattle.sheet.proofs.Walks.{sift_yes, sift_no, sift_all}
 use Rattle.sheet.proofs.shelf.without.Goals as goal

@@ -1,4 +1,4 @@
-use Rattle.std.proofs.Common.{◌≡◌, ◌++◌, take, drop, vec_items}
+use Rattle.std.proofs.Common.{◌≡◌, ◌++◌, drop, vec_items}
 use Rattle.sheet.specs.Shelves.{kept_of}
 use Rattle.sheet.proofs.shelf.without.Given as goal
 

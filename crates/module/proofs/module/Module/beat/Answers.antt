@@ -1,4 +1,4 @@
-use Rattle.std.proofs.Common.{Ok, sym, refl, ap, ◌∙◌, w8, w32}
+use Rattle.std.proofs.Common.{Ok, ap, ◌∙◌, w8, w32}
 use borrow.Author.Rules.{sfits_of}
 use Rattle.std.proofs.lemmas.Int.{to_z-of_z}
 use Rattle.std.specs.Option.{option_or}

@@ -1,4 +1,4 @@
-use Rattle.std.proofs.Common.{◌≡◌, ◌+◌, [], ◌∷◌, ◌++◌, take, vec_items, sym, ap, ◌∙◌, take_all}
+use Rattle.std.proofs.Common.{[], ◌∷◌, ◌++◌, take, vec_items, sym, ap, ◌∙◌, take_all}
 use Rattle.std.proofs.lemmas.List.{map_push, take_more}
 use Rattle.sheet.specs.declared.verdict.ShelfPhase.{ShelfPhase}
 use Rattle.sheet.specs.Desks.{meant_in}

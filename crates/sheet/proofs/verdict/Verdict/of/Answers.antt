@@ -1,5 +1,5 @@
 -- A phase that `==` takes for the other is the other.
-use Rattle.std.proofs.Common.{◌≡◌, refl, ◌∙◌, sym}
+use Rattle.std.proofs.Common.{refl, ◌∙◌, sym}
 use Rattle.phases.proofs.Same.{phase_same}
 use Rattle.sheet.proofs.verdict.Verdict.of.Goals as goal
 
