@@ -5,10 +5,10 @@ use faults::Fault;
 use lines::Receiver;
 use outputs::StepOutput;
 
+mod answers;
 mod calls;
 mod finish;
 mod readings;
-mod answers;
 
 #[derive(Drop)]
 pub struct Module<O: StepOutput> {
