@@ -1,6 +1,5 @@
-use Rattle.std.proofs.lemmas.Slice.Eq.{slice_eq-Decides, bytes_eq-Decides}
-use Rattle.std.proofs.lemmas.Bool.Decides.{same_from_decides, Decides-eqb}
+use Rattle.words.proofs.Same.{bytes_same}
 use Rattle.words.proofs.numbers.is.Goals as goal
 
 pub returns : goal.returns
-returns c = same_from_decides _ _ (slice_eq-Decides Decides-eqb c.args.text.now c.args.name.now _ c.eq.ensures) (bytes_eq-Decides c.args.text.now c.args.name.now)
+returns c = cc (bytes_same c.args.text.now c.args.name.now)

@@ -7,15 +7,15 @@ pub returns-then-is_some : goal.returns-then-is_some
 returns-then-is_some c =
     ap Err c.sequence_exists.ensures
     ∙ answers_exists (sequences c.args.self.now) c.args.number c.find.result c.find.ensures.answer c.args.reserve
-    c.if-number-eq0.false c.if-number-gt99.false c.if-reserve-eq0.false c.if-reserve-gt50.false (sym c.if-is_some.ensures)
+    c.if-number-eq0.false c.if-number-gt99.false c.if-reserve-eq0.false (omega arith) (sym c.if-is_some.ensures)
 
 pub returns-then-reserved-reserve-gt-CAPACITY : goal.returns-then-reserved-reserve-gt-CAPACITY
 returns-then-reserved-reserve-gt-CAPACITY c =
     ap Err c.memory_full.ensures
     ∙ answers_full (sequences c.args.self.now) c.args.number c.find.result c.find.ensures.answer c.args.reserve
-    c.if-number-eq0.false c.if-number-gt99.false c.if-reserve-eq0.false c.if-reserve-gt50.false (sym c.if-is_some.ensures) (omega arith)
+    c.if-number-eq0.false c.if-number-gt99.false c.if-reserve-eq0.false (omega arith) (sym c.if-is_some.ensures) (omega arith)
 
 pub returns : goal.returns
 returns c =
     answers_ok (sequences c.args.self.now) c.args.number c.find.result c.find.ensures.answer c.args.reserve
-    c.if-number-eq0.false c.if-number-gt99.false c.if-reserve-eq0.false c.if-reserve-gt50.false (sym c.if-is_some.ensures) (omega arith)
+    c.if-number-eq0.false c.if-number-gt99.false c.if-reserve-eq0.false (omega arith) (sym c.if-is_some.ensures) (omega arith)
