@@ -1,11 +1,12 @@
 -- What SN and SE answer and leave, case by case.
-use Rattle.std.proofs.Common.{◌≡◌, ℕ, ◌+◌, ◌-◌, ◌<◌, ◌≤◌, Bool, true, false, cond, not, leb, List, is_some, is_ok, Some, None, Ok, Err, Option, sym, refl, ap, ◌∙◌, subst, arith}
+use Rattle.std.proofs.Common.{◌≡◌, ℕ, ◌+◌, ◌-◌, ◌<◌, ◌≤◌, Bool, true, false, cond, not, leb, List, is_some, is_ok, Some, None, Ok, Err, Option, Result, sym, refl, ap, ◌∙◌, subst, arith}
 use Rattle.std.specs.List.{remove}
 use Rattle.std.proofs.lemmas.Bool.{and_from, le-leb, leb-true, lt-leb, ne_eqb, not-true, not-false, false≢true}
 use Rattle.store.specs.declared.directory.Block.{Block}
 use Rattle.store.specs.declared.directory.Span.{Span}
 use Rattle.phases.specs.declared.phase.Phase.{Phase}
 use Rattle.phases.specs.Phases.{SequenceNumber}
+use Rattle.faults.specs.declared.Fault.{Fault}
 use Rattle.faults.specs.Faults.{sequence_exists, memory_full}
 use Rattle.store.specs.Blocks.{reserved, placed, absent, sound}
 use Rattle.store.specs.Records.{ReserveFits, create_answer, erased_blocks, erased_records, closed}
@@ -33,6 +34,11 @@ module _ (bs : List Block) (n : ℕ) (r : Option Span) (e : r ≡ placed 0 0 bs 
 
     pub answers_ok : is_some r ≡ false → reserved bs + k ≤ 414 → Ok tt ≡ create_answer bs n k
     answers_ok h f = rw (is_number n z l, is_reserve k y j, missing h, le-leb (reserved bs + k) 414 f)
+
+-- what is refused as too much, of what a caller of the directory has found
+pub refused_full : (bs : List Block) (n k : ℕ) (r : Option Span) (there : Bool) (f : Fault) → r ≡ placed 0 0 bs n → there ≡ is_some r → there ≡ false → f ≡ memory_full
+    → (n ≡ 0 → ⊥) → n ≤ 99 → (k ≡ 0 → ⊥) → k ≤ 50 → 414 < reserved bs + k → ◌≡◌ {A = Result (Unit {0}) Fault} (Err f) (create_answer bs n k)
+refused_full bs n k r there f e s absence g z l y j h = ap Err g ∙ answers_full bs n r e k z l y j (sym s ∙ absence) h
 
 module _ (bs : List Block) (n : ℕ) (z : n ≡ 0 → ⊥) (s : sound bs ≡ true) where
   pub erases_blocks : (p : Span) → Some p ≡ placed 0 0 bs n → remove bs p.index ≡ erased_blocks bs n

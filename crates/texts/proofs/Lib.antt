@@ -3,3 +3,4 @@ pub mod MarksBack
 pub mod ReadBack
 pub mod Joined
 pub mod Taken
+pub mod Found

@@ -158,6 +158,7 @@ fn write_phase(p: &Phase, reply: &mut Reply, ns: u8, np: u8)
 }
 
 // Writes the phase that is found, or X where it is unwritten.
+#[tactic(auto, using(crate::proofs::Found::found_text, crate::proofs::Found::unfound_text, crate::proofs::Found::unfound_back, crate::proofs::ReadBack::reads_back))]
 fn write_found(p: &Phase, reply: &mut Reply, ns: u8, np: u8)
     requires { Room reply.old 51 }
     ensures back { TakenBack ns np p.now }

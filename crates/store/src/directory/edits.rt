@@ -59,6 +59,7 @@ impl Directory {
     }
 
     // Whether a sequence of that number and reserve can be created.
+    #[tactic(auto, using(crate::proofs::Asked::refused_full))]
     pub fn admits(&self, number: u8, reserve: u8) -> Result<(), Fault>
         ensures { result ≡ create_answer (sequences self.now) number reserve }
     {
