@@ -4,16 +4,20 @@ use Rattle.senses.specs.declared.Sense.{Sense}
 use Rattle.senses.specs.declared.Sense.TheVariants.{Forward, Back}
 use Rattle.outputs.specs.Meaning.{Meaning, moved}
 use Rattle.axis.specs.Wrap.{wrapped24}
-use Rattle.axis.specs.declared.axis.Axis.{Axis}
 
 pub record AxisState : Type 0 where
   pub counter : ℤ
   pub place : ℕ
   pub power : Bool
 
--- The state of an axis, given what its output means.
-abbrev pub axis_state : {O : Type 0} → (O → Meaning) → Axis O → AxisState
-axis_state meaning a = record { counter = a.counter; place = (meaning a.output).place; power = (meaning a.output).power }
+-- An axis as clauses see it: its state, and the output that it steps.
+pub record AxisView (O : Type 0) : Type 0 where
+  pub state : AxisState
+  pub output : O
+
+-- The place and the power are the output's.
+abbrev pub axis_view : {O : Type 0} → Meaning → ℤ → O → AxisView O
+axis_view m counter output = record { state = record { counter = counter; place = m.place; power = m.power }; output = output }
 
 -- A step as a number: +1 forward, -1 back.
 abbrev pub one_step : Sense → ℤ

@@ -5,4 +5,4 @@ pub mod axis;
 #[cfg(test)]
 mod tests;
 
-pub use axis::Axis;
+pub use axis::{Axis, signed};

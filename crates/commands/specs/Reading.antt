@@ -3,8 +3,12 @@ use Rattle.std.specs.Prelude.{ℕ, Bool, true, false, cond, ◌&&◌, List, ℤ,
 use Rattle.std.specs.Option.{ok_or}
 use Rattle.faults.specs.declared.Fault.{Fault}
 use Rattle.faults.specs.Faults.{and_then, wrong_form, unknown_command}
-use Rattle.words.specs.Words.{Ahead, upcoming, past}
+use Rattle.lines.specs.declared.line.Addressee.{Addressee}
+use Rattle.lines.specs.declared.line.Addressee.TheVariants as to
+use Rattle.lines.specs.Lines.{Kept, addressee_in, text_in}
+use Rattle.words.specs.Words.{Ahead, words, upcoming, past}
 use Rattle.words.specs.Readings.{end, only_unsigned, only_signed, only_hexadecimal, two_unsigned}
+use Rattle.fields.specs.declared.fields.Address.{Address}
 use Rattle.fields.specs.declared.fields.RawPhase.{RawPhase}
 use Rattle.fields.specs.Fields.{sp_form}
 use Rattle.commands.specs.declared.command.Command.{Command}
@@ -66,8 +70,11 @@ with_sign make s = and_then (only_signed s) (λ n. Ok (make n))
 abbrev pub pattern : (ℕ → Command) → Ahead → Result Command Fault
 pattern make s = and_then (only_hexadecimal s) (λ n. Ok (make n))
 
-abbrev pub numbers : (ℕ → ℕ → Command) → Ahead → Result Command Fault
-numbers make s = and_then (two_unsigned s) (λ p. Ok (make p.0 p.1))
+abbrev pub address : Ahead → Result Address Fault
+address s = and_then (two_unsigned s) (λ p. Ok (record { sequence = p.0; phase = p.1 }))
+
+abbrev pub numbers : (Address → Command) → Ahead → Result Command Fault
+numbers make s = and_then (address s) (λ a. Ok (make a))
 
 abbrev pub phase : (RawPhase → Command) → Ahead → Result Command Fault
 phase make s = and_then (sp_form s) (λ p. Ok (make p))
@@ -104,3 +111,16 @@ arguments ReadFault = alone c.ReadFault
 -- the command of these words: 6, then 0
 unfoldable pub read_from : Bool → List (List ℕ) → Result Command Fault
 read_from broadcast ws = and_then (known (ws, 1)) (λ n. and_then (asked broadcast n) (λ m. arguments m (past (ws, 1))))
+
+-- the command behind the first `from` characters of a line
+unfoldable pub command_behind : ℕ → Bool → Kept → Result Command Fault
+command_behind from broadcast k = and_then (text_in from k) (λ t. read_from broadcast (words t))
+
+-- an own line is read behind its address, a broadcast from its first character, a stranger's line not at all
+abbrev pub command_to : Addressee → Kept → Option (Result Command Fault)
+command_to to.Own k = Some (command_behind 2 false k)
+command_to to.Broadcast k = Some (command_behind 0 true k)
+command_to to.Stranger k = None
+
+abbrev pub command_in : ℕ → Kept → Option (Result Command Fault)
+command_in address k = command_to (addressee_in address k) k

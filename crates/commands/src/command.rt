@@ -1,6 +1,6 @@
 // A command with what its words say. The numbers are not yet held against their limits.
 
-use fields::RawPhase;
+use fields::{Address, RawPhase};
 
 #[derive(Clone, Copy)]
 pub enum Command {
@@ -19,12 +19,12 @@ pub enum Command {
     PowerOn,
     PowerOff,
     SetOutputs(u64),
-    Create(u64, u64),
+    Create(Address),
     Erase(u64),
     Choose(u64),
     Start(u64),
     Write(RawPhase),
-    ReadPhase(u64, u64),
+    ReadPhase(Address),
     Restart,
     ReadParameters,
     ReadPosition,

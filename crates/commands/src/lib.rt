@@ -6,4 +6,4 @@ mod names;
 mod read;
 
 pub use command::Command;
-pub use read::read_command;
+pub use read::{read_command, read_line};

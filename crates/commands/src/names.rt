@@ -1,9 +1,12 @@
 // The names of the commands.
 ghost use Rattle.std.specs.Prelude.{◌≡◌};
-ghost use Rattle.commands.specs.Names.{setting_of, movement_of, store_of, other_of, name_of};
+ghost use Rattle.std.specs.Option.{option_and_then};
+ghost use Rattle.words.specs.Sorts.{command_text};
+ghost use Rattle.commands.specs.Names.{name_of};
 
-use words::is;
+use words::Word;
 
+// Beside `Command`, since a question as a broadcast is refused before the words behind it are read.
 #[derive(Clone, Copy)]
 pub(crate) enum Name {
     StartSpeed,
@@ -34,96 +37,37 @@ pub(crate) enum Name {
     ReadFault,
 }
 
-fn setting_of(text: &[u8]) -> Option<Name>
-    ensures { result ≡ setting_of text.now }
-{
-    if is(text, b"VN") {
-        Some(Name::StartSpeed)
-    } else if is(text, b"VX") {
-        Some(Name::PlateauSpeed)
-    } else if is(text, b"TR") {
-        Some(Name::Slope)
-    } else if is(text, b"DR") {
-        Some(Name::Distance)
-    } else if is(text, b"D+") {
-        Some(Name::Forward)
-    } else if is(text, b"D-") {
-        Some(Name::Back)
-    } else if is(text, b"DI") {
-        Some(Name::ZeroCounter)
-    } else if is(text, b"DP") {
-        Some(Name::SetCounter)
-    } else {
-        None
-    }
-}
-
-fn movement_of(text: &[u8]) -> Option<Name>
-    ensures { result ≡ movement_of text.now }
-{
-    if is(text, b"GO") {
-        Some(Name::Move)
-    } else if is(text, b"GH") {
-        Some(Name::MoveToOrigin)
-    } else if is(text, b"GA") {
-        Some(Name::MoveTo)
-    } else if is(text, b"GE") {
-        Some(Name::SlowStop)
-    } else if is(text, b"GM") {
-        Some(Name::PowerOn)
-    } else if is(text, b"GR") {
-        Some(Name::PowerOff)
-    } else if is(text, b"GL") {
-        Some(Name::SetOutputs)
-    } else {
-        None
-    }
-}
-
-fn store_of(text: &[u8]) -> Option<Name>
-    ensures { result ≡ store_of text.now }
-{
-    if is(text, b"SN") {
-        Some(Name::Create)
-    } else if is(text, b"SE") {
-        Some(Name::Erase)
-    } else if is(text, b"SD") {
-        Some(Name::Choose)
-    } else if is(text, b"SS") {
-        Some(Name::Start)
-    } else if is(text, b"SP") {
-        Some(Name::Write)
-    } else if is(text, b"RS") {
-        Some(Name::ReadPhase)
-    } else {
-        None
-    }
-}
-
-fn other_of(text: &[u8]) -> Option<Name>
-    ensures { result ≡ other_of text.now }
-{
-    if is(text, b"MR") {
-        Some(Name::Restart)
-    } else if is(text, b"RL") {
-        Some(Name::ReadParameters)
-    } else if is(text, b"RP") {
-        Some(Name::ReadPosition)
-    } else if is(text, b"RV") {
-        Some(Name::ReadVersion)
-    } else if is(text, b"RX") {
-        Some(Name::ReadFault)
-    } else {
-        None
-    }
-}
-
 // The command that a word names.
-pub(crate) fn name_of(text: &[u8]) -> Option<Name>
-    ensures { result ≡ name_of text.now }
+pub(crate) fn name_of(word: Word) -> Option<Name>
+    ensures { result ≡ option_and_then name_of (command_text word.entry) }
 {
-    setting_of(text)
-        .or(movement_of(text))
-        .or(store_of(text))
-        .or(other_of(text))
+    match word {
+        Word::Command(b"VN") => Some(Name::StartSpeed),
+        Word::Command(b"VX") => Some(Name::PlateauSpeed),
+        Word::Command(b"TR") => Some(Name::Slope),
+        Word::Command(b"DR") => Some(Name::Distance),
+        Word::Command(b"D+") => Some(Name::Forward),
+        Word::Command(b"D-") => Some(Name::Back),
+        Word::Command(b"DI") => Some(Name::ZeroCounter),
+        Word::Command(b"DP") => Some(Name::SetCounter),
+        Word::Command(b"GO") => Some(Name::Move),
+        Word::Command(b"GH") => Some(Name::MoveToOrigin),
+        Word::Command(b"GA") => Some(Name::MoveTo),
+        Word::Command(b"GE") => Some(Name::SlowStop),
+        Word::Command(b"GM") => Some(Name::PowerOn),
+        Word::Command(b"GR") => Some(Name::PowerOff),
+        Word::Command(b"GL") => Some(Name::SetOutputs),
+        Word::Command(b"SN") => Some(Name::Create),
+        Word::Command(b"SE") => Some(Name::Erase),
+        Word::Command(b"SD") => Some(Name::Choose),
+        Word::Command(b"SS") => Some(Name::Start),
+        Word::Command(b"SP") => Some(Name::Write),
+        Word::Command(b"RS") => Some(Name::ReadPhase),
+        Word::Command(b"MR") => Some(Name::Restart),
+        Word::Command(b"RL") => Some(Name::ReadParameters),
+        Word::Command(b"RP") => Some(Name::ReadPosition),
+        Word::Command(b"RV") => Some(Name::ReadVersion),
+        Word::Command(b"RX") => Some(Name::ReadFault),
+        _ => None,
+    }
 }

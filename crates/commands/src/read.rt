@@ -2,26 +2,28 @@
 ghost use Rattle.std.specs.Prelude.{◌≡◌};
 ghost use Rattle.words.specs.Left.{ahead};
 ghost use Rattle.words.specs.Words.{words, past};
-ghost use Rattle.commands.specs.Reading.{is_question, known, asked, alone as alone_in, arguments as arguments_in, read_from};
+ghost use Rattle.lines.specs.Lines.{kept};
+ghost use Rattle.commands.specs.Reading.{is_question, known, asked, alone as alone_in, address as address_in, arguments as arguments_in, read_from, command_behind, command_in};
 
 use crate::command::Command;
 use crate::names::{Name, name_of};
 use faults::Fault;
-use fields::read_sp;
-use words::{Reader, Word};
+use fields::{Address, read_sp};
+use lines::{Addressee, Line};
+use words::Reader;
 
 impl Name {
     fn is_question(self) -> bool
         ensures { result ≡ is_question self }
     {
-        match self {
+        matches!(
+            self,
             Name::ReadParameters
-            | Name::ReadPosition
-            | Name::ReadPhase
-            | Name::ReadVersion
-            | Name::ReadFault => true,
-            _ => false,
-        }
+                | Name::ReadPosition
+                | Name::ReadPhase
+                | Name::ReadVersion
+                | Name::ReadFault
+        )
     }
 }
 
@@ -30,10 +32,10 @@ fn command_word(reader: &mut Reader) -> Result<Name, Fault>
     ensures value { result ≡ known (ahead reader.old) }
     ensures ahead { ahead reader.new ≡ past (ahead reader.old) }
 {
-    let Some(Word::Command(text)) = reader.command() else {
-        return Err(Fault::unknown_command());
-    };
-    name_of(text).ok_or(Fault::unknown_command())
+    reader
+        .command()
+        .and_then(name_of)
+        .ok_or(Fault::unknown_command())
 }
 
 // A question as a broadcast is refused.
@@ -52,6 +54,14 @@ fn alone(reader: &Reader, command: Command) -> Result<Command, Fault>
 {
     reader.end()?;
     Ok(command)
+}
+
+// A sequence and a phase of it, or how many it reserves, and no word behind them.
+fn address(reader: &mut Reader) -> Result<Address, Fault>
+    ensures { result ≡ address_in (ahead reader.old) }
+{
+    let (sequence, phase) = reader.two_unsigned()?;
+    Ok(Address { sequence, phase })
 }
 
 // The words behind the command.
@@ -74,18 +84,12 @@ fn arguments(reader: &mut Reader, name: Name) -> Result<Command, Fault>
         Name::PowerOn => alone(reader, Command::PowerOn),
         Name::PowerOff => alone(reader, Command::PowerOff),
         Name::SetOutputs => Ok(Command::SetOutputs(reader.only_pattern()?)),
-        Name::Create => {
-            let (sequence, phases) = reader.two_unsigned()?;
-            Ok(Command::Create(sequence, phases))
-        }
+        Name::Create => Ok(Command::Create(address(reader)?)),
         Name::Erase => Ok(Command::Erase(reader.only_unsigned()?)),
         Name::Choose => Ok(Command::Choose(reader.only_unsigned()?)),
         Name::Start => Ok(Command::Start(reader.only_unsigned()?)),
         Name::Write => Ok(Command::Write(read_sp(reader)?)),
-        Name::ReadPhase => {
-            let (sequence, phase) = reader.two_unsigned()?;
-            Ok(Command::ReadPhase(sequence, phase))
-        }
+        Name::ReadPhase => Ok(Command::ReadPhase(address(reader)?)),
         Name::Restart => alone(reader, Command::Restart),
         Name::ReadParameters => alone(reader, Command::ReadParameters),
         Name::ReadPosition => alone(reader, Command::ReadPosition),
@@ -95,6 +99,7 @@ fn arguments(reader: &mut Reader, name: Name) -> Result<Command, Fault>
 }
 
 // The command of a text, which is a line behind its address, or a broadcast.
+#[tactic(auto, unfolding(crate::specs::Reading::read_from))]
 pub fn read_command(text: &[u8], broadcast: bool) -> Result<Command, Fault>
     ensures { result ≡ read_from broadcast (words text.now) }
 {
@@ -102,4 +107,24 @@ pub fn read_command(text: &[u8], broadcast: bool) -> Result<Command, Fault>
     let name = command_word(&mut reader)?;
     let name = ask(name, broadcast)?;
     arguments(&mut reader, name)
+}
+
+// The command behind the first `from` characters of a line.
+#[tactic(auto, unfolding(crate::specs::Reading::command_behind))]
+fn command_behind(line: &Line, from: usize, broadcast: bool) -> Result<Command, Fault>
+    ensures { result ≡ command_behind from broadcast (kept line.now) }
+{
+    let text = line.text(from)?;
+    read_command(text, broadcast)
+}
+
+// The command of a line at a module of the address, or why the line is refused; none for a stranger's line.
+pub fn read_line(line: &Line, address: u8) -> Option<Result<Command, Fault>>
+    ensures { result ≡ command_in address (kept line.now) }
+{
+    match line.addressee(address) {
+        Addressee::Own => Some(command_behind(line, 2, false)),
+        Addressee::Broadcast => Some(command_behind(line, 0, true)),
+        Addressee::Stranger => None,
+    }
 }

@@ -1,7 +1,7 @@
 -- Only SN and SE change the sequences, and no order changes the address.
 use Rattle.std.proofs.Common.{◌≡◌, ℕ, false, List, ℤ, Some, None, Option, refl, ◌∙◌}
 use Rattle.motion.specs.Motions.{Motion, begun, stopped, tick_rest}
-use Rattle.engine.specs.declared.distance.Distance.{Distance as Steps}
+use Rattle.motion.specs.declared.distance.Distance.{Distance as Steps}
 use Rattle.engine.specs.Progress.{Progress}
 use Rattle.engine.specs.Ticks.{slow_stop}
 use Rattle.phases.specs.declared.phase.Phase.{Phase}
@@ -62,12 +62,12 @@ acted_keeps s counter SlowStop = slowed_keeps s s.doing
 acted_keeps s counter PowerOn = record { blocks = refl; address = refl }
 acted_keeps s counter PowerOff = cut_off_keeps s s.doing
 acted_keeps s counter (SetOutputs n) = record { blocks = refl; address = refl }
-acted_keeps s counter (Create n p) = record { blocks = refl; address = refl }
+acted_keeps s counter (Create b) = record { blocks = refl; address = refl }
 acted_keeps s counter (Erase n) = record { blocks = refl; address = refl }
 acted_keeps s counter (Choose n) = record { blocks = refl; address = refl }
 acted_keeps s counter (Start n) = record { blocks = refl; address = refl }
-acted_keeps s counter (Write n p q) = record { blocks = refl; address = refl }
-acted_keeps s counter (ReadPhase n p) = record { blocks = refl; address = refl }
+acted_keeps s counter (Write at p) = record { blocks = refl; address = refl }
+acted_keeps s counter (ReadPhase at) = record { blocks = refl; address = refl }
 acted_keeps s counter Restart = restarted_keeps s s.chosen
 acted_keeps s counter ReadParameters = record { blocks = refl; address = refl }
 acted_keeps s counter ReadPosition = record { blocks = refl; address = refl }
@@ -90,12 +90,12 @@ stored_address s m SlowStop = refl
 stored_address s m PowerOn = refl
 stored_address s m PowerOff = refl
 stored_address s m (SetOutputs n) = refl
-stored_address s m (Create n p) = refl
+stored_address s m (Create b) = refl
 stored_address s m (Erase n) = refl
 stored_address s m (Choose n) = refl
 stored_address s m (Start n) = refl
-stored_address s m (Write n p q) = refl
-stored_address s m (ReadPhase n p) = refl
+stored_address s m (Write at p) = refl
+stored_address s m (ReadPhase at) = refl
 stored_address s m Restart = refl
 stored_address s m ReadParameters = refl
 stored_address s m ReadPosition = refl
@@ -106,13 +106,9 @@ pub obeyed_address : (s : State) (m : List Phase) (counter : ℤ) (o : Order) �
 unfolding obeyed
 obeyed_address s m counter o = stored_address (acted s counter o) m o ∙ (acted_keeps s counter o).address
 
-set_outputs_address : (s : State) (n : Option ℕ) → (with_set_outputs s n).address ≡ s.address
-set_outputs_address s None = refl
-set_outputs_address s (Some n) = refl
-
 pub ticked_address : (s : State) (m : List Phase) (counter : ℤ) (d : Doing) → (ticked s m counter d).address ≡ s.address
 ticked_address s m counter resting = refl
 ticked_address s m counter (moving mo) = (moves_on_keeps s (tick_rest mo)).address
 ticked_address s m counter (running r) =
     let t = with_set_outputs s (run_outcome s m counter r).effects.outputs in
-    (runs_on_keeps t (run_outcome s m counter r).rest).address ∙ set_outputs_address s (run_outcome s m counter r).effects.outputs
+    (runs_on_keeps t (run_outcome s m counter r).rest).address

@@ -9,10 +9,10 @@ use Rattle.motion.specs.Motions.{begun, stopped}
 use Rattle.store.specs.declared.directory.Block.{Block}
 use Rattle.store.specs.Blocks.{reserved}
 use Rattle.store.specs.Records.{lent, appended, blanked, create_answer, erase_answer, erased_blocks, erased_records, located, write_answer, rewritten}
-use Rattle.engine.specs.declared.distance.Distance.{Distance as Steps}
+use Rattle.motion.specs.declared.distance.Distance.{Distance as Steps}
 use Rattle.engine.specs.declared.effects.Power.{Power}
 use Rattle.engine.specs.declared.effects.Power.TheVariants.{On, Off}
-use Rattle.engine.specs.Distances.{distance_to}
+use Rattle.motion.specs.Distances.{distance_to}
 use Rattle.engine.specs.Ticks.{started, slow_stop}
 use Rattle.orders.specs.declared.order.Order.{Order}
 use Rattle.orders.specs.declared.order.Order.TheVariants.{StartSpeed, PlateauSpeed, Slope, Distance, Forward, Back, ZeroCounter, SetCounter, Move, MoveToOrigin, MoveTo, SlowStop, PowerOn, PowerOff, SetOutputs, Create, Erase, Choose, Start, Write, ReadPhase, Restart, ReadParameters, ReadPosition, ReadVersion, ReadFault}
@@ -66,12 +66,12 @@ acted s counter SlowStop = slowed s s.doing
 acted s counter PowerOn = s
 acted s counter PowerOff = cut_off s s.doing
 acted s counter (SetOutputs n) = with_outputs s n
-acted s counter (Create n p) = s
+acted s counter (Create b) = s
 acted s counter (Erase n) = s
 acted s counter (Choose n) = with_chosen s (Some n)
 acted s counter (Start n) = with_doing s (running (started n))
-acted s counter (Write n p q) = s
-acted s counter (ReadPhase n p) = s
+acted s counter (Write at p) = s
+acted s counter (ReadPhase at) = s
 acted s counter Restart = restarted s s.chosen
 acted s counter ReadParameters = s
 acted s counter ReadPosition = s
@@ -95,12 +95,12 @@ stored s m SlowStop = s
 stored s m PowerOn = s
 stored s m PowerOff = s
 stored s m (SetOutputs n) = s
-stored s m (Create n p) = with_blocks s (cond (is_ok (and_then (lent m) (λ _. create_answer s.blocks n p))) (appended s.blocks n p) s.blocks)
+stored s m (Create b) = with_blocks s (cond (is_ok (and_then (lent m) (λ _. create_answer s.blocks b.number b.reserve))) (appended s.blocks b.number b.reserve) s.blocks)
 stored s m (Erase n) = with_chosen (with_blocks s (cond (is_ok (and_then (lent m) (λ _. erase_answer n))) (erased_blocks s.blocks n) s.blocks)) (choice_without n s.chosen)
 stored s m (Choose n) = s
 stored s m (Start n) = s
-stored s m (Write n p q) = s
-stored s m (ReadPhase n p) = s
+stored s m (Write at p) = s
+stored s m (ReadPhase at) = s
 stored s m Restart = s
 stored s m ReadParameters = s
 stored s m ReadPosition = s
@@ -123,12 +123,12 @@ stored_records bs m SlowStop = m
 stored_records bs m PowerOn = m
 stored_records bs m PowerOff = m
 stored_records bs m (SetOutputs n) = m
-stored_records bs m (Create n p) = cond (is_ok (and_then (lent m) (λ _. create_answer bs n p))) (blanked (reserved bs) p m) m
+stored_records bs m (Create b) = cond (is_ok (and_then (lent m) (λ _. create_answer bs b.number b.reserve))) (blanked (reserved bs) b.reserve m) m
 stored_records bs m (Erase n) = cond (is_ok (and_then (lent m) (λ _. erase_answer n))) (erased_records bs n m) m
 stored_records bs m (Choose n) = m
 stored_records bs m (Start n) = m
-stored_records bs m (Write n p q) = cond (is_ok (and_then (lent m) (λ _. write_answer (located bs n p)))) (rewritten (located bs n p) q m) m
-stored_records bs m (ReadPhase n p) = m
+stored_records bs m (Write at p) = cond (is_ok (and_then (lent m) (λ _. write_answer (located bs at.sequence at.phase)))) (rewritten (located bs at.sequence at.phase) p m) m
+stored_records bs m (ReadPhase at) = m
 stored_records bs m Restart = m
 stored_records bs m ReadParameters = m
 stored_records bs m ReadPosition = m
@@ -169,12 +169,12 @@ order_change chosen SlowStop = no_change
 order_change chosen PowerOn = power_set On
 order_change chosen PowerOff = power_set Off
 order_change chosen (SetOutputs n) = no_change
-order_change chosen (Create n p) = no_change
+order_change chosen (Create b) = no_change
 order_change chosen (Erase n) = no_change
 order_change chosen (Choose n) = no_change
 order_change chosen (Start n) = power_set On
-order_change chosen (Write n p q) = no_change
-order_change chosen (ReadPhase n p) = no_change
+order_change chosen (Write at p) = no_change
+order_change chosen (ReadPhase at) = no_change
 order_change chosen Restart = restart_change chosen
 order_change chosen ReadParameters = no_change
 order_change chosen ReadPosition = no_change

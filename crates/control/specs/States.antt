@@ -1,5 +1,6 @@
 -- The state of a module but for its line, its fault record and its axis.
 use Rattle.std.specs.Prelude.{ℕ, Bool, true, false, List, [], Some, None, Option}
+use Rattle.std.specs.Option.{unwrap_or}
 use Rattle.senses.specs.declared.Sense.{Sense}
 use Rattle.senses.specs.declared.Sense.TheVariants.{Forward}
 use Rattle.motion.specs.Values.{Values, values, initial_values}
@@ -9,7 +10,7 @@ use Rattle.store.specs.Directories.{sequences}
 use Rattle.engine.specs.Progress.{Progress, progress}
 use Rattle.orders.specs.declared.order.Situation.{Situation}
 use Rattle.control.specs.declared.activity.Activity.{Activity}
-use Rattle.control.specs.declared.activity.Activity.TheVariants.{Rest, Moving, Running}
+use Rattle.control.specs.declared.activity.Activity.TheVariants.{Moving, Running}
 use Rattle.control.specs.declared.control.Control.{Control}
 use Rattle.control.specs.declared.settings.Settings.{Settings}
 
@@ -40,10 +41,10 @@ pub data Doing : Type 0 where
   moving : Motion → Doing
   running : Progress → Doing
 
-abbrev pub doing_of : Activity → Doing
-doing_of Rest = resting
-doing_of (Moving m) = moving (motion m)
-doing_of (Running r) = running (progress r)
+abbrev pub doing_of : Option Activity → Doing
+doing_of None = resting
+doing_of (Some (Moving m)) = moving (motion m)
+doing_of (Some (Running r)) = running (progress r)
 
 pub record State : Type 0 where
   pub settings : Parameters
@@ -109,15 +110,22 @@ with_doing s d = record { settings = s.settings; address = s.address; levels = s
 abbrev pub ended : State → State
 ended s = with_doing (with_outputs s 255) resting
 
-abbrev pub moves_on : State → Option Motion → State
-moves_on s None = ended s
-moves_on s (Some m) = with_doing s (moving m)
+-- what is left goes on; where nothing is, that is the end
+abbrev pub goes_on : State → Doing → State
+goes_on s resting = ended s
+goes_on s (moving m) = with_doing s (moving m)
+goes_on s (running r) = with_doing s (running r)
 
+-- the movement that is left goes on
+abbrev pub moves_on : State → Option Motion → State
+moves_on s None = goes_on s resting
+moves_on s (Some m) = goes_on s (moving m)
+
+-- the run that is left goes on
 abbrev pub runs_on : State → Option Progress → State
-runs_on s None = ended s
-runs_on s (Some r) = with_doing s (running r)
+runs_on s None = goes_on s resting
+runs_on s (Some r) = goes_on s (running r)
 
 -- the outputs set by a phase, if it sets them
 abbrev pub with_set_outputs : State → Option ℕ → State
-with_set_outputs s None = s
-with_set_outputs s (Some n) = with_outputs s n
+with_set_outputs s o = with_outputs s (unwrap_or o s.outputs)

@@ -10,7 +10,12 @@ use Rattle.control.specs.States.{State, Doing, resting, moving, running, moves_o
 
 -- a run reads the phases, the counter and the levels
 unfoldable pub run_outcome : State → List Phase → ℤ → Progress → Outcome
-run_outcome s m counter r = tick s.blocks m counter s.levels s.settings.values r
+run_outcome s m counter r =
+    tick (record { blocks = s.blocks; records = m; values = s.settings.values }) (record { counter = counter; levels = s.levels }) r
+
+-- the outputs that the tick of a run sets, and the run that is left
+abbrev pub run_ticked : State → Outcome → State
+run_ticked s o = runs_on (with_set_outputs s o.effects.outputs) o.rest
 
 -- what the tick does to the axis, and the fault that ends a run
 abbrev pub tick_effects : State → List Phase → ℤ → Doing → Effects
@@ -21,4 +26,4 @@ tick_effects s m counter (running r) = (run_outcome s m counter r).effects
 abbrev pub ticked : State → List Phase → ℤ → Doing → State
 ticked s m counter resting = s
 ticked s m counter (moving mo) = moves_on s (tick_rest mo)
-ticked s m counter (running r) = runs_on (with_set_outputs s (run_outcome s m counter r).effects.outputs) (run_outcome s m counter r).rest
+ticked s m counter (running r) = run_ticked s (run_outcome s m counter r)

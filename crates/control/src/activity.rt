@@ -1,10 +1,9 @@
-// What goes on in a module.
+// What goes on in a module that is not at rest.
 use engine::Run;
 use motion::Movement;
 
 #[derive(Clone, Copy)]
 pub enum Activity {
-    Rest,
     Moving(Movement),
     Running(Run),
 }

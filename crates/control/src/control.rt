@@ -20,11 +20,12 @@ pub struct Control {
     pub outputs: u8,
     pub chosen: Option<u8>,
     pub directory: Directory,
-    pub activity: Activity,
+    // none at rest
+    pub activity: Option<Activity>,
 }
 
 // What an order does to the axis: a value for the counter, and power switched.
-#[derive(Clone, Copy)]
+#[derive(Clone, Copy, Default)]
 pub struct Change {
     pub counter: Option<i32>,
     pub power: Option<Power>,
@@ -42,7 +43,7 @@ impl Control {
             outputs: 0xFF,
             chosen: None,
             directory: Directory::new(),
-            activity: Activity::Rest,
+            activity: None,
         }
     }
 
@@ -50,10 +51,7 @@ impl Control {
     pub fn busy(&self) -> bool
         ensures { result ≡ is_busy (state self.now).doing }
     {
-        match self.activity {
-            Activity::Rest => false,
-            Activity::Moving(_) | Activity::Running(_) => true,
-        }
+        self.activity.is_some()
     }
 
     fn situation(&self) -> Situation

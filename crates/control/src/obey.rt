@@ -1,22 +1,16 @@
 // What an accepted order does.
-ghost use Rattle.std.specs.Prelude.{◌≡◌, false, None};
-ghost use Rattle.motion.specs.Motions.{begun};
-ghost use Rattle.engine.specs.Distances.{distance_to};
-ghost use Rattle.control.specs.States.{state, moves_on};
+ghost use Rattle.std.specs.Prelude.{◌≡◌, Some};
+ghost use Rattle.engine.specs.Ticks.{started};
+ghost use Rattle.control.specs.States.{state, doing_of, running};
 ghost use Rattle.control.specs.Obeyed.{moves_to, slowed, cut_off, restarted, choice_without, acted, stored, stored_records, obeyed, order_change, restart_change};
 
 use crate::activity::Activity;
 use crate::control::{Change, Control};
-use engine::{Distance, Power, Run};
-use motion::Movement;
+use engine::{Power, Run};
+use motion::{Distance, Movement};
 use orders::Order;
 use phases::Phase;
 use senses::Sense;
-
-const NO_CHANGE: Change = Change {
-    counter: None,
-    power: None,
-};
 
 // What an order does to the axis.
 fn change(order: Order, chosen: Option<u8>) -> Change
@@ -25,11 +19,11 @@ fn change(order: Order, chosen: Option<u8>) -> Change
     match order {
         Order::ZeroCounter => Change {
             counter: Some(0),
-            ..NO_CHANGE
+            ..Change::default()
         },
         Order::SetCounter(value) => Change {
             counter: Some(value),
-            ..NO_CHANGE
+            ..Change::default()
         },
         Order::Move
         | Order::MoveToOrigin
@@ -37,14 +31,14 @@ fn change(order: Order, chosen: Option<u8>) -> Change
         | Order::Start { .. }
         | Order::PowerOn => Change {
             power: Some(Power::On),
-            ..NO_CHANGE
+            ..Change::default()
         },
         Order::PowerOff => Change {
             power: Some(Power::Off),
-            ..NO_CHANGE
+            ..Change::default()
         },
         Order::Restart => restart_change(chosen),
-        _ => NO_CHANGE,
+        _ => Change::default(),
     }
 }
 
@@ -52,9 +46,10 @@ fn change(order: Order, chosen: Option<u8>) -> Change
 fn restart_change(chosen: Option<u8>) -> Change
     ensures { result ≡ restart_change chosen }
 {
-    let power = match chosen {
-        Some(_) => Power::On,
-        None => Power::Off,
+    let power = if chosen.is_some() {
+        Power::On
+    } else {
+        Power::Off
     };
     Change {
         counter: Some(0),
@@ -66,34 +61,32 @@ fn restart_change(chosen: Option<u8>) -> Change
 fn choice_without(chosen: Option<u8>, number: u8) -> Option<u8>
     ensures { result ≡ choice_without number chosen }
 {
-    match chosen {
-        Some(choice) if number == 0 || choice == number => None,
-        _ => chosen,
-    }
+    chosen.filter(|choice| number != 0 && *choice != number)
+}
+
+// A sequence that starts.
+fn started(number: u8) -> Activity
+    ensures { doing_of (Some result) ≡ running (started number) }
+{
+    Activity::Running(Run::new(number))
 }
 
 impl Control {
     // Starts a direct movement; one of zero steps has ended at once.
-    fn start_movement(&mut self, sense: Sense, steps: u32)
-        ensures { state self.new ≡ moves_on (state self.old) (begun (state self.old).settings.values None sense steps false) }
+    fn start_movement(&mut self, distance: Distance)
+        ensures { state self.new ≡ moves_to (state self.old) distance }
     {
-        let movement = Movement::new(self.settings.parameters, None, sense, steps, false);
-        self.move_on(movement);
+        let movement = Movement::new(self.settings.parameters, None, distance, false);
+        self.go_on(movement.map(Activity::Moving));
     }
 
     fn slow_stop(&mut self)
         ensures { state self.new ≡ slowed (state self.old) (state self.old).doing }
     {
         match self.activity {
-            Activity::Rest => {}
-            Activity::Moving(movement) => {
-                let rest = movement.stop();
-                self.move_on(rest);
-            }
-            Activity::Running(run) => {
-                let (_, rest) = run.stop();
-                self.run_on(rest);
-            }
+            None => {}
+            Some(Activity::Moving(movement)) => self.go_on(movement.stop().map(Activity::Moving)),
+            Some(Activity::Running(run)) => self.go_on(run.stop().rest.map(Activity::Running)),
         }
     }
 
@@ -101,25 +94,9 @@ impl Control {
     fn power_off(&mut self)
         ensures { state self.new ≡ cut_off (state self.old) (state self.old).doing }
     {
-        match self.activity {
-            Activity::Rest => {}
-            Activity::Moving(_) | Activity::Running(_) => self.move_on(None),
+        if self.activity.is_some() {
+            self.go_on(None);
         }
-    }
-
-    // The distance set by DR, in the direction set by D+ or D-.
-    fn move_distance(&mut self)
-        ensures { state self.new ≡ moves_to (state self.old) (record { sense = (state self.old).settings.direction; steps = (state self.old).settings.distance }) }
-    {
-        self.start_movement(self.settings.direction, self.settings.distance);
-    }
-
-    // The plain difference from the counter, its sign being the sense.
-    fn move_to(&mut self, goal: i32, counter: i32)
-        ensures { state self.new ≡ moves_to (state self.old) (distance_to goal counter) }
-    {
-        let distance = Distance::to(goal, counter);
-        self.start_movement(distance.sense, distance.steps);
     }
 
     // All stops, and the chosen sequence starts.
@@ -127,10 +104,7 @@ impl Control {
         ensures { state self.new ≡ restarted (state self.old) (state self.old).chosen }
     {
         self.outputs = 0xFF;
-        self.activity = Activity::Rest;
-        if let Some(number) = self.chosen {
-            self.activity = Activity::Running(Run::new(number));
-        }
+        self.activity = self.chosen.map(started);
     }
 
     // Power-up: the same as MR.
@@ -161,14 +135,17 @@ impl Control {
             Order::Distance(n) => self.settings.distance = n,
             Order::Forward => self.settings.direction = Sense::Forward,
             Order::Back => self.settings.direction = Sense::Back,
-            Order::Move => self.move_distance(),
-            Order::MoveToOrigin => self.move_to(0, counter),
-            Order::MoveTo(goal) => self.move_to(goal, counter),
+            Order::Move => self.start_movement(Distance {
+                sense: self.settings.direction,
+                steps: self.settings.distance,
+            }),
+            Order::MoveToOrigin => self.start_movement(Distance::to(0, counter)),
+            Order::MoveTo(goal) => self.start_movement(Distance::to(goal, counter)),
             Order::SlowStop => self.slow_stop(),
             Order::PowerOff => self.power_off(),
             Order::SetOutputs(outputs) => self.outputs = outputs,
             Order::Choose { number } => self.chosen = Some(number),
-            Order::Start { number } => self.activity = Activity::Running(Run::new(number)),
+            Order::Start { number } => self.activity = Some(started(number)),
             Order::Restart => self.restart(),
             _ => {}
         }
@@ -180,15 +157,15 @@ impl Control {
         ensures records { memory.new ≡ stored_records (state self.old).blocks memory.old order }
     {
         match order {
-            Order::Create { number, reserve } => {
-                let _ = self.directory.create(memory, number, reserve);
+            Order::Create(block) => {
+                let _ = self.directory.create(memory, block);
             }
             Order::Erase { number } => {
                 let _ = self.directory.erase(memory, number);
                 self.chosen = choice_without(self.chosen, number);
             }
-            Order::Write { number, np, phase } => {
-                let _ = self.directory.write(memory, number, np, phase);
+            Order::Write { at, phase } => {
+                let _ = self.directory.write(memory, at, phase);
             }
             _ => {}
         }

@@ -30,8 +30,6 @@ impl Settings {
     pub(crate) fn set_parameters(&mut self, start: u16, plateau: u16, slope: u16)
         ensures { settings self.new ≡ with_values (settings self.old) (unwrap_or (values_within start plateau slope) (values self.old.parameters)) }
     {
-        if let Some(parameters) = Parameters::new(start, plateau, slope) {
-            self.parameters = parameters;
-        }
+        self.parameters = Parameters::new(start, plateau, slope).unwrap_or(self.parameters);
     }
 }

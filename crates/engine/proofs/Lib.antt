@@ -7,4 +7,3 @@ mod Readings
 mod Rules
 mod Plateaus
 mod Ends
-mod Contracts

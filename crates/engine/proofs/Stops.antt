@@ -11,7 +11,8 @@ use Rattle.engine.specs.declared.run.State.TheVariants.{Entering, Moving, Waitin
 use Rattle.engine.specs.declared.run.Run.{Run}
 use Rattle.engine.specs.Progress.{Progress, Activity, entering, moving, waiting, activity_of, progress, with_activity}
 use Rattle.engine.specs.Ticks.{moved, with_movement, stopped_run}
-use Rattle.engine.specs.Whole.{Moment, Program, after, StopsAfterGe, StopsInTime, SlowingAt, EntersNoMore}
+use Rattle.engine.specs.Surroundings.{Moment, Program}
+use Rattle.engine.specs.Whole.{after, StopsAfterGe, StopsInTime, SlowingAt, EntersNoMore}
 
 abbrev Stopping : Option Motion → Type 0
 Stopping None = Unit {0}
@@ -25,7 +26,7 @@ still_stopping m s =
 abbrev EndsWith : Program → List Moment → Progress → Phase → Type 0
 EndsWith g ts c p = (o : Option Motion) → Stopping o → motion-after (length ts) o ≡ None → after g ts (with_movement c p o) ≡ None
 
-one_tick : (g : Program) (t : Moment) (ts : List Moment) (c : Progress) (p : Phase) (m : Motion) → m.stopping ≡ true → EndsWith g ts c p → (o : Option Motion) → Stopping o → motion-after (length ts) o ≡ None → after g ts (moved g.blocks t.levels (with_activity c (moving p m)) p m o).rest ≡ None
+one_tick : (g : Program) (t : Moment) (ts : List Moment) (c : Progress) (p : Phase) (m : Motion) → m.stopping ≡ true → EndsWith g ts c p → (o : Option Motion) → Stopping o → motion-after (length ts) o ≡ None → after g ts (moved g t (with_activity c (moving p m)) p m o).rest ≡ None
 one_tick g t ts c p m s rec None h e = rw s refl
 one_tick g t ts c p m s rec (Some r) h e = rec (Some r) h e
 
@@ -50,7 +51,7 @@ stops_in_time r o q = subst (StopsInTime (progress r).activity) (sym q) (in_time
 abbrev SlowsWith : Program → List Moment → Progress → Phase → Type 0
 SlowsWith g ts c p = (o : Option Motion) → Stopping o → SlowingAt c.at (after g ts (with_movement c p o))
 
-slows_one_tick : (g : Program) (t : Moment) (ts : List Moment) (c : Progress) (p : Phase) (m : Motion) → m.stopping ≡ true → SlowsWith g ts c p → (o : Option Motion) → Stopping o → SlowingAt c.at (after g ts (moved g.blocks t.levels (with_activity c (moving p m)) p m o).rest)
+slows_one_tick : (g : Program) (t : Moment) (ts : List Moment) (c : Progress) (p : Phase) (m : Motion) → m.stopping ≡ true → SlowsWith g ts c p → (o : Option Motion) → Stopping o → SlowingAt c.at (after g ts (moved g t (with_activity c (moving p m)) p m o).rest)
 slows_one_tick g t ts c p m s rec None h = rw s tt
 slows_one_tick g t ts c p m s rec (Some r) h = rec (Some r) h
 

@@ -3,6 +3,7 @@ pub mod Distances
 pub mod Effects
 pub mod Stacks
 pub mod Progress
+pub mod Surroundings
 pub mod Leaving
 pub mod Entering
 pub mod Ticks

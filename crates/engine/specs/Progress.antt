@@ -4,12 +4,12 @@ use Rattle.faults.specs.declared.Fault.{Fault}
 use Rattle.phases.specs.declared.phase.Phase.{Phase}
 use Rattle.motion.specs.Motions.{Motion, motion}
 use Rattle.motion.specs.Values.{speed_value}
-use Rattle.engine.specs.declared.position.Position.{Position}
-use Rattle.engine.specs.declared.position.Next.{Next}
+use Rattle.phases.specs.declared.phase.Position.{Position}
 use Rattle.engine.specs.declared.run.State.{State}
 use Rattle.engine.specs.declared.run.State.TheVariants.{Entering, Moving, Waiting}
 use Rattle.engine.specs.declared.run.Run.{Run}
 use Rattle.engine.specs.declared.effects.Effects.{Effects}
+use Rattle.engine.specs.declared.outcome.Outcome.{Outcome as Answer}
 use Rattle.engine.specs.Stacks.{opened}
 
 -- the phase is to be entered; or its movement, or its wait of that many ticks, goes on
@@ -22,7 +22,7 @@ pub record Progress : Type 0 where
   pub at : Position
   pub activity : Activity
   pub plateau : Option ℕ
-  pub returns : List Next
+  pub returns : List (Option Position)
 
 abbrev pub activity_of : State → Activity
 activity_of Entering = entering
@@ -46,10 +46,17 @@ with_activity c a = record { at = c.at; activity = a; plateau = c.plateau; retur
 abbrev pub with_plateau : Progress → Option ℕ → Progress
 with_plateau c v = record { at = c.at; activity = c.activity; plateau = v; returns = c.returns }
 
-abbrev pub with_returns : Progress → List Next → Progress
+abbrev pub with_returns : Progress → List (Option Position) → Progress
 with_returns c qs = record { at = c.at; activity = c.activity; plateau = c.plateau; returns = qs }
 
 -- what a tick comes to: what is to be done outside, and the run if it goes on
 pub record Outcome : Type 0 where
   pub effects : Effects
   pub rest : Option Progress
+
+-- the run stays at its phase
+abbrev pub stays : Progress → Effects → Activity → Outcome
+stays c e a = record { effects = e; rest = Some (with_activity c a) }
+
+abbrev pub outcome : Answer → Outcome
+outcome o = record { effects = o.effects; rest = progress_left o.rest }

@@ -10,12 +10,12 @@ use Rattle.store.specs.declared.directory.Block.{Block}
 use Rattle.motion.specs.Motions.{Motion, tick_step, tick_rest}
 use Rattle.motion.specs.Values.{speed_within}
 use Rattle.engine.specs.declared.effects.Effects.{Effects}
-use Rattle.engine.specs.declared.position.Position.{Position}
-use Rattle.engine.specs.declared.position.Next.{Next}
-use Rattle.engine.specs.declared.position.Next.TheVariants.{End, At}
+use Rattle.phases.specs.declared.phase.Position.{Position}
+use Rattle.engine.specs.Surroundings.{Program, Moment}
 use Rattle.engine.specs.Positions.{first_of, following, next_of}
-use Rattle.engine.specs.Distances.{distance_to, distance_of}
-use Rattle.engine.specs.Progress.{Progress, Activity, entering, moving, waiting}
+use Rattle.motion.specs.Distances.{distance_to}
+use Rattle.engine.specs.Distances.{distance_of}
+use Rattle.engine.specs.Progress.{Progress, Outcome, Activity, entering, moving, waiting}
 use Rattle.engine.specs.Leaving.{link_absent, too_many_open, agrees, exists}
 use Rattle.engine.specs.Entering.{phase_at}
 
@@ -46,20 +46,20 @@ abbrev pub movement_event : Phase → Bool → Option Motion → Event
 movement_event p stopping (Some m) = continues
 movement_event p stopping None = cond stopping ended_by_ge (over p)
 
-abbrev pub activity_event : List Block → List Phase → ℤ → Position → Activity → Event
-activity_event bs memory counter q entering = entry_event counter (phase_at bs memory q)
-activity_event bs memory counter q (moving p m) = movement_event p m.stopping (tick_rest m)
-activity_event bs memory counter q (waiting p n) = cond (nat_le n 1) (over p) continues
+abbrev pub activity_event : Program → Moment → Position → Activity → Event
+activity_event g t q entering = entry_event t.counter (phase_at g q)
+activity_event g t q (moving p m) = movement_event p m.stopping (tick_rest m)
+activity_event g t q (waiting p n) = cond (nat_le n 1) (over p) continues
 
-abbrev pub event : List Block → List Phase → ℤ → Progress → Event
-event bs memory counter c = activity_event bs memory counter c.at c.activity
+abbrev pub event : Program → Moment → Progress → Event
+event g t c = activity_event g t c.at c.activity
 
 -- the run is still at the phase, which it has entered
-abbrev pub Stays : Position → List Next → Option Progress → Type 0
+abbrev pub Stays : Position → List (Option Position) → Option Progress → Type 0
 Stays q calls rest = (r : Progress) × (rest ≡ Some r) × (r.at ≡ q) × (r.returns ≡ calls) × (r.activity ≢ entering)
 
 -- the next tick enters that phase, with these sub-sequences open
-abbrev pub Enters : Position → List Next → Option Progress → Type 0
+abbrev pub Enters : Position → List (Option Position) → Option Progress → Type 0
 Enters q calls rest = (r : Progress) × (rest ≡ Some r) × (r.at ≡ q) × (r.returns ≡ calls) × (r.activity ≡ entering)
 
 -- the run ends
@@ -71,38 +71,37 @@ abbrev pub OverAgreeing : ℕ → Event → Phase → Type 0
 OverAgreeing levels e p = (e ≡ over p) × (agrees p levels ≡ true)
 
 -- each line is a rule; a run that is at q, with these sub-sequences open, goes on or ends by one of them
-pub data ByTheRules (bs : List Block) (levels : ℕ) (q : Position) (calls : List Next) (e : Event) (fault : Option Fault) (rest : Option Progress) : Type 0 where
+pub data ByTheRules (bs : List Block) (levels : ℕ) (q : Position) (calls : List (Option Position)) (e : Event) (fault : Option Fault) (rest : Option Progress) : Type 0 where
   -- the phase goes on
   goes_on : e ≡ continues → fault ≡ None → Stays q calls rest → ByTheRules bs levels q calls e fault rest
   -- NE does not agree: the following phase comes, whatever the link and NS are
   ne_differs : (p : Phase) → e ≡ over p → agrees p levels ≡ false → fault ≡ None → Enters (following q) calls rest → ByTheRules bs levels q calls e fault rest
   -- without link and NS the following phase comes
-  follows : (p : Phase) → OverAgreeing levels e p → p.link ≡ link.None → p.next ≡ None → fault ≡ None → Enters (following q) calls rest → ByTheRules bs levels q calls e fault rest
+  follows : (p : Phase) → OverAgreeing levels e p → p.link ≡ None → p.next ≡ None → fault ≡ None → Enters (following q) calls rest → ByTheRules bs levels q calls e fault rest
   -- without a link NS comes
-  ns : (p : Phase) (n : ℕ) → OverAgreeing levels e p → p.link ≡ link.None → p.next ≡ Some n → (n ≢ 54) → fault ≡ None → Enters (record { sequence = q.sequence; phase = n }) calls rest → ByTheRules bs levels q calls e fault rest
+  ns : (p : Phase) (n : ℕ) → OverAgreeing levels e p → p.link ≡ None → p.next ≡ Some n → (n ≢ 54) → fault ≡ None → Enters (record { sequence = q.sequence; phase = n }) calls rest → ByTheRules bs levels q calls e fault rest
   -- NS 54 ends the run
-  ns_54 : (p : Phase) → OverAgreeing levels e p → p.link ≡ link.None → p.next ≡ Some 54 → fault ≡ None → Ends rest → ByTheRules bs levels q calls e fault rest
+  ns_54 : (p : Phase) → OverAgreeing levels e p → p.link ≡ None → p.next ≡ Some 54 → fault ≡ None → Ends rest → ByTheRules bs levels q calls e fault rest
   -- NL goes to phase 1 of its sequence and leaves the open sub-sequences open
-  nl : (p : Phase) (n : ℕ) → OverAgreeing levels e p → p.link ≡ link.Sequence n → exists bs n ≡ true → fault ≡ None → Enters (first_of n) calls rest → ByTheRules bs levels q calls e fault rest
+  nl : (p : Phase) (n : ℕ) → OverAgreeing levels e p → p.link ≡ Some (link.Sequence n) → exists bs n ≡ true → fault ≡ None → Enters (first_of n) calls rest → ByTheRules bs levels q calls e fault rest
   -- NQ goes there too, and opens a sub-sequence that returns to NS or to the following phase
-  nq : (p : Phase) (n : ℕ) → OverAgreeing levels e p → p.link ≡ link.SubSequence n → exists bs n ≡ true → length calls < 4 → fault ≡ None → Enters (first_of n) (next_of q p.next ∷ calls) rest → ByTheRules bs levels q calls e fault rest
+  nq : (p : Phase) (n : ℕ) → OverAgreeing levels e p → p.link ≡ Some (link.SubSequence n) → exists bs n ≡ true → length calls < 4 → fault ≡ None → Enters (first_of n) (next_of q p.next ∷ calls) rest → ByTheRules bs levels q calls e fault rest
   -- an absent sequence is fault 3
-  nl_absent : (p : Phase) (n : ℕ) → OverAgreeing levels e p → p.link ≡ link.Sequence n → exists bs n ≡ false → fault ≡ Some link_absent → Ends rest → ByTheRules bs levels q calls e fault rest
-  nq_absent : (p : Phase) (n : ℕ) → OverAgreeing levels e p → p.link ≡ link.SubSequence n → exists bs n ≡ false → fault ≡ Some link_absent → Ends rest → ByTheRules bs levels q calls e fault rest
+  nl_absent : (p : Phase) (n : ℕ) → OverAgreeing levels e p → p.link ≡ Some (link.Sequence n) → exists bs n ≡ false → fault ≡ Some link_absent → Ends rest → ByTheRules bs levels q calls e fault rest
+  nq_absent : (p : Phase) (n : ℕ) → OverAgreeing levels e p → p.link ≡ Some (link.SubSequence n) → exists bs n ≡ false → fault ≡ Some link_absent → Ends rest → ByTheRules bs levels q calls e fault rest
   -- a fifth sub-sequence is fault 10
-  nq_fifth : (p : Phase) (n : ℕ) → OverAgreeing levels e p → p.link ≡ link.SubSequence n → exists bs n ≡ true → 4 ≤ length calls → fault ≡ Some too_many_open → Ends rest → ByTheRules bs levels q calls e fault rest
+  nq_fifth : (p : Phase) (n : ℕ) → OverAgreeing levels e p → p.link ≡ Some (link.SubSequence n) → exists bs n ≡ true → 4 ≤ length calls → fault ≡ Some too_many_open → Ends rest → ByTheRules bs levels q calls e fault rest
   -- an unwritten phase ends the run
   unwritten_ends : e ≡ unwritten → calls ≡ [] → fault ≡ None → Ends rest → ByTheRules bs levels q calls e fault rest
   -- in a sub-sequence it returns
-  unwritten_returns : (to : Position) (earlier : List Next) → e ≡ unwritten → calls ≡ At to ∷ earlier → fault ≡ None → Enters to earlier rest → ByTheRules bs levels q calls e fault rest
+  unwritten_returns : (to : Position) (earlier : List (Option Position)) → e ≡ unwritten → calls ≡ Some to ∷ earlier → fault ≡ None → Enters to earlier rest → ByTheRules bs levels q calls e fault rest
   -- a return to 54 ends the run
-  returns_54 : (earlier : List Next) → e ≡ unwritten → calls ≡ End ∷ earlier → fault ≡ None → Ends rest → ByTheRules bs levels q calls e fault rest
+  returns_54 : (earlier : List (Option Position)) → e ≡ unwritten → calls ≡ None ∷ earlier → fault ≡ None → Ends rest → ByTheRules bs levels q calls e fault rest
   -- after GE the end of the movement ends the run
   after_ge : e ≡ ended_by_ge → fault ≡ None → Ends rest → ByTheRules bs levels q calls e fault rest
 
-abbrev pub GoesByTheRules : List Block → List Phase → ℤ → ℕ → Progress → Option Fault → Option Progress → Type 0
-GoesByTheRules bs memory counter levels c fault rest =
-    ByTheRules bs levels c.at c.returns (event bs memory counter c) fault rest
+abbrev pub GoesByTheRules : Program → Moment → Progress → Outcome → Type 0
+GoesByTheRules g t c o = ByTheRules g.blocks t.levels c.at c.returns (event g t c) o.effects.fault o.rest
 
 -- ---- the plateau set by NC lasts to the end of the run
 
@@ -121,18 +120,18 @@ abbrev pub plateau_entering : Option Phase → Option ℕ → Option ℕ
 plateau_entering None v = v
 plateau_entering (Some p) v = set_by p p.nature v
 
-abbrev pub plateau_after : List Block → List Phase → Progress → Activity → Option ℕ
-plateau_after bs memory c entering = plateau_entering (phase_at bs memory c.at) c.plateau
-plateau_after bs memory c (moving p m) = c.plateau
-plateau_after bs memory c (waiting p n) = c.plateau
+abbrev pub plateau_after : Program → Progress → Activity → Option ℕ
+plateau_after g c entering = plateau_entering (phase_at g c.at) c.plateau
+plateau_after g c (moving p m) = c.plateau
+plateau_after g c (waiting p n) = c.plateau
 
 abbrev pub HasPlateau : Option ℕ → Option Progress → Type 0
 HasPlateau v None = Unit {0}
 HasPlateau v (Some r) = r.plateau ≡ v
 
 -- only a tick that enters NC changes it
-abbrev pub PlateauLasts : List Block → List Phase → Progress → Option Progress → Type 0
-PlateauLasts bs memory c rest = HasPlateau (plateau_after bs memory c c.activity) rest
+abbrev pub PlateauLasts : Program → Progress → Outcome → Type 0
+PlateauLasts g c o = HasPlateau (plateau_after g c c.activity) o.rest
 
 -- ---- a run that ends is told to have ended, with outputs FFh; one that goes on is not
 

@@ -1,10 +1,9 @@
 -- A run from tick to tick.
-use Rattle.std.specs.Prelude.{ℕ, ◌-◌, cond, List, [], ℤ, Some, None, Option, nat_le}
+use Rattle.std.specs.Prelude.{ℕ, ◌-◌, cond, [], Some, None, Option, nat_le}
 use Rattle.phases.specs.declared.phase.Phase.{Phase}
-use Rattle.store.specs.declared.directory.Block.{Block}
 use Rattle.motion.specs.Motions.{Motion, tick_step, tick_rest, stopped}
-use Rattle.motion.specs.Values.{Values}
 use Rattle.engine.specs.declared.effects.Effects.{Effects}
+use Rattle.engine.specs.Surroundings.{Program, Moment}
 use Rattle.engine.specs.Positions.{first_of}
 use Rattle.engine.specs.Effects.{step_only, nothing, at_end}
 use Rattle.engine.specs.Progress.{Progress, Outcome, Activity, entering, moving, waiting, with_activity}
@@ -16,24 +15,24 @@ abbrev pub started : ℕ → Progress
 started n = record { at = first_of n; activity = entering; plateau = None; returns = [] }
 
 -- the movement goes on, or it has ended: after GE the run ends as well, else the phase
-abbrev pub moved : List Block → ℕ → Progress → Phase → Motion → Option Motion → Outcome
-moved bs levels c p m (Some rest) = record { effects = step_only (tick_step m); rest = Some (with_activity c (moving p rest)) }
-moved bs levels c p m None =
+abbrev pub moved : Program → Moment → Progress → Phase → Motion → Option Motion → Outcome
+moved g t c p m (Some rest) = record { effects = step_only (tick_step m); rest = Some (with_activity c (moving p rest)) }
+moved g t c p m None =
     cond m.stopping
     (record { effects = step_only (tick_step m); rest = None })
-    (phase_ended (step_only (tick_step m)) (leaves bs levels c p))
+    (phase_ended (step_only (tick_step m)) (leaves g t c p))
 
 -- the wait has n ticks left
-abbrev pub waited : List Block → ℕ → Progress → Phase → ℕ → Outcome
-waited bs levels c p n =
+abbrev pub waited : Program → Moment → Progress → Phase → ℕ → Outcome
+waited g t c p n =
     cond (nat_le n 1)
-    (phase_ended nothing (leaves bs levels c p))
+    (phase_ended nothing (leaves g t c p))
     (record { effects = nothing; rest = Some (with_activity c (waiting p (n - 1))) })
 
-abbrev pub activity_tick : List Block → List Phase → ℤ → ℕ → Values → Progress → Activity → Outcome
-activity_tick bs memory counter levels v c entering = enters bs counter levels v c (phase_at bs memory c.at)
-activity_tick bs memory counter levels v c (moving p m) = moved bs levels c p m (tick_rest m)
-activity_tick bs memory counter levels v c (waiting p n) = waited bs levels c p n
+abbrev pub activity_tick : Program → Moment → Progress → Activity → Outcome
+activity_tick g t c entering = enters g t c (phase_at g c.at)
+activity_tick g t c (moving p m) = moved g t c p m (tick_rest m)
+activity_tick g t c (waiting p n) = waited g t c p n
 
 -- the end of the run is told with the effects
 abbrev pub told : Effects → Option Progress → Effects
@@ -46,8 +45,8 @@ concluded e rest = record { effects = told e rest; rest = rest }
 abbrev pub conclusion : Outcome → Outcome
 conclusion o = concluded o.effects o.rest
 
-abbrev pub tick : List Block → List Phase → ℤ → ℕ → Values → Progress → Outcome
-tick bs memory counter levels v c = conclusion (activity_tick bs memory counter levels v c c.activity)
+abbrev pub tick : Program → Moment → Progress → Outcome
+tick g t c = conclusion (activity_tick g t c c.activity)
 
 -- GE: the run goes on until its movement has ended
 abbrev pub with_movement : Progress → Phase → Option Motion → Option Progress

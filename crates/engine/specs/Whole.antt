@@ -1,53 +1,36 @@
 -- Whole runs.
-use Rattle.std.specs.Prelude.{◌≡◌, ℕ, ◌+◌, ◌*◌, ◌<◌, ◌≤◌, Bool, true, false, cond, List, [], ◌∷◌, length, ℤ, is_some, Some, None, Option, ◌==◌, unsigned_abs}
+use Rattle.std.specs.Prelude.{◌≡◌, ℕ, ◌+◌, ◌*◌, ◌<◌, ◌≤◌, Bool, true, false, cond, List, [], ◌∷◌, length, is_some, Some, None, Option, ◌==◌, unsigned_abs}
 use Rattle.std.specs.List.{AllByRecursion}
 use Rattle.phases.specs.declared.phase.Phase.{Phase}
 use Rattle.phases.specs.declared.phase.Nature.TheVariants.{Wait}
 use Rattle.phases.specs.Phases.{Written}
-use Rattle.store.specs.declared.directory.Block.{Block}
 use Rattle.motion.specs.Motions.{Motion}
-use Rattle.motion.specs.Values.{Values}
 use Rattle.motion.specs.Laws.{Valid}
 use Rattle.engine.specs.declared.effects.Effects.{Effects}
 use Rattle.engine.specs.declared.effects.Power.{Power}
 use Rattle.engine.specs.declared.effects.Power.TheVariants.{On, Off}
-use Rattle.engine.specs.declared.position.Position.{Position}
-use Rattle.engine.specs.declared.position.Next.{Next}
-use Rattle.engine.specs.declared.position.Next.TheVariants.{End, At}
-use Rattle.engine.specs.Progress.{Progress, Activity, entering, moving, waiting, Outcome}
+use Rattle.phases.specs.declared.phase.Position.{Position}
+use Rattle.engine.specs.Surroundings.{Program, Moment}
+use Rattle.engine.specs.Progress.{Progress, Activity, entering, moving, waiting}
 use Rattle.engine.specs.Leaving.{exists}
 use Rattle.engine.specs.Entering.{phase_at}
 use Rattle.engine.specs.Ticks.{started, tick, stopped_run}
 use Rattle.engine.specs.Rules.{continues, over, event}
 
--- the sequences, the phases and the parameters do not change while the module is busy
-pub record Program : Type 0 where
-  pub blocks : List Block
-  pub records : List Phase
-  pub values : Values
-
--- the counter and the levels of a tick
-pub record Moment : Type 0 where
-  pub counter : ℤ
-  pub levels : ℕ
-
-abbrev pub ticked : Program → Moment → Progress → Outcome
-ticked g t c = tick g.blocks g.records t.counter t.levels g.values c
-
 -- what is left of a run after some ticks
 abbrev pub after : Program → List Moment → Option Progress → Option Progress
 after g ts None = None
 after g [] (Some c) = Some c
-after g (t ∷ ts) (Some c) = after g ts (ticked g t c).rest
+after g (t ∷ ts) (Some c) = after g ts (tick g t c).rest
 
 -- ---- a run is always in a sequence that exists, and at most four sub-sequences are open
 
 abbrev pub InSequence : Program → Position → Type 0
 InSequence g q = exists g.blocks q.sequence ≡ true
 
-abbrev pub NextInSequence : Program → Next → Type 0
-NextInSequence g End = Unit {0}
-NextInSequence g (At q) = InSequence g q
+abbrev pub NextInSequence : Program → Option Position → Type 0
+NextInSequence g None = Unit {0}
+NextInSequence g (Some q) = InSequence g q
 
 abbrev pub InSequences : Program → Option Progress → Type 0
 InSequences g None = Unit {0}
@@ -63,7 +46,7 @@ StaysInSequences = (n : ℕ) → RunsInSequences n (started n)
 -- ---- what counts as unwritten is never run
 
 abbrev pub RunsOnlyWritten : Type 0
-RunsOnlyWritten = (g : Program) (q : Position) (p : Phase) → phase_at g.blocks g.records q ≡ Some p → Written p ≡ true
+RunsOnlyWritten = (g : Program) (q : Position) (p : Phase) → phase_at g q ≡ Some p → Written p ≡ true
 
 -- ---- a movement goes on only with power on
 
@@ -89,7 +72,7 @@ PowerKept c e rest =
     × (is_some e.step ≡ true → (on ≡ true) × (e.power ≡ None) × (e.zero_counter ≡ false))
 
 abbrev pub StepsWithPower : Type 0
-StepsWithPower = (g : Program) (t : Moment) (c : Progress) → PowerKept c (ticked g t c).effects (ticked g t c).rest
+StepsWithPower = (g : Program) (t : Moment) (c : Progress) → PowerKept c (tick g t c).effects (tick g t c).rest
 
 -- ---- after GE the run ends with its movement, at the latest after as many ticks as that is up the slope
 
@@ -125,9 +108,9 @@ EntersNoMore q rest = (g : Program) (ts : List Moment) → SlowingAt q (after g 
 abbrev pub WaitsItsTime : Type 0
 WaitsItsTime =
     (g : Program) (t : Moment) (ts : List Moment) (c : Progress) (p : Phase) →
-    c.activity ≡ entering → phase_at g.blocks g.records c.at ≡ Some p → p.nature ≡ Wait →
+    c.activity ≡ entering → phase_at g c.at ≡ Some p → p.nature ≡ Wait →
     length ts < 40 * unsigned_abs p.set_point →
     (r : Progress)
     × (after g (t ∷ ts) (Some c) ≡ Some r)
     × (r.at ≡ c.at)
-    × ((u : Moment) → event g.blocks g.records u.counter r ≡ cond (length ts + 1 == 40 * unsigned_abs p.set_point) (over p) continues)
+    × ((u : Moment) → event g u r ≡ cond (length ts + 1 == 40 * unsigned_abs p.set_point) (over p) continues)

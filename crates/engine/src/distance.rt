@@ -1,38 +1,16 @@
-// How many steps a movement makes, and in which sense.
+// How far NP and NV go.
 ghost use Rattle.std.specs.Prelude.{◌≡◌};
-ghost use Rattle.engine.specs.Distances.{distance_to, distance_of};
+ghost use Rattle.engine.specs.Distances.{distance_of};
 
+use motion::Distance;
 use phases::Phase;
-use senses::Sense;
 
-#[derive(Clone, Copy)]
-pub struct Distance {
-    pub sense: Sense,
-    pub steps: u32,
-}
-
-impl Distance {
-    // The plain difference from the counter, its sign being the sense.
-    pub fn to(goal: i32, counter: i32) -> Distance
-        ensures { result ≡ distance_to goal counter }
-    {
-        Distance {
-            sense: if goal < counter {
-                Sense::Back
-            } else {
-                Sense::Forward
-            },
-            steps: goal.abs_diff(counter),
-        }
-    }
-
-    // As many steps as the set point says, in the phase's sense.
-    pub fn of(phase: &Phase) -> Distance
-        ensures { result ≡ distance_of phase.now }
-    {
-        Distance {
-            sense: phase.sense,
-            steps: phase.set_point.unsigned_abs(),
-        }
+// As many steps as the set point says, in the phase's sense.
+pub fn distance_of(phase: &Phase) -> Distance
+    ensures { result ≡ distance_of phase.now }
+{
+    Distance {
+        sense: phase.sense,
+        steps: phase.set_point.unsigned_abs(),
     }
 }

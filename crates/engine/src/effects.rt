@@ -12,7 +12,7 @@ pub enum Power {
 }
 
 // The step made, power switched, the counter set to zero, the outputs set, whether the run has ended, and its fault.
-#[derive(Clone, Copy)]
+#[derive(Clone, Copy, Default)]
 pub struct Effects {
     pub step: Option<Sense>,
     pub power: Option<Power>,
@@ -23,15 +23,6 @@ pub struct Effects {
 }
 
 impl Effects {
-    pub const NONE: Effects = Effects {
-        step: None,
-        power: None,
-        zero_counter: false,
-        outputs: None,
-        ended: false,
-        fault: None,
-    };
-
     // These effects where the run ends: the outputs are set to FFh, and power is left as it is.
     pub fn at_end(self) -> Effects
         ensures { result ≡ at_end self }

@@ -3,15 +3,20 @@
 
 mod distance;
 mod effects;
+mod fault;
 mod laws;
+mod outcome;
 mod position;
 mod returns;
 mod run;
+mod surroundings;
 
-pub use distance::Distance;
+pub use distance::distance_of;
 pub use effects::{Effects, Power};
 pub use laws::run_laws;
+pub use outcome::Outcome;
 pub use run::Run;
+pub use surroundings::Surroundings;
 
 #[cfg(test)]
 mod tests;

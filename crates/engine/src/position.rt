@@ -1,47 +1,34 @@
 // The phase that a run is at, and where it goes on.
 ghost use Rattle.std.specs.Prelude.{◌≡◌};
-ghost use Rattle.engine.specs.Positions.{following, next_of};
+ghost use Rattle.engine.specs.Positions.{first_of, following, next_of};
 
-// A phase of a sequence.
-#[derive(Clone, Copy)]
-pub struct Position {
-    pub sequence: u8,
-    pub phase: u8,
-}
-
-// The end of the run, or the phase to enter.
-#[derive(Clone, Copy)]
-pub enum Next {
-    End,
-    At(Position),
-}
+use phases::Position;
 
 // As NS it ends the run.
 const END: u8 = 54;
 
-impl Position {
-    pub fn following(self) -> Position
-        ensures { result ≡ following self }
-    {
-        Position {
-            sequence: self.sequence,
-            phase: self.phase.saturating_add(1),
-        }
-    }
+pub(crate) fn first_of(sequence: u8) -> Position
+    ensures { result ≡ first_of sequence }
+{
+    Position { sequence, phase: 1 }
+}
 
-    // NS, or without it the following phase.
-    pub fn next(self, next: Option<u8>) -> Next
-        ensures { result ≡ next_of self next }
-    {
-        let Some(phase) = next else {
-            return Next::At(self.following());
-        };
-        if phase == END {
-            return Next::End;
-        }
-        Next::At(Position {
-            sequence: self.sequence,
-            phase,
-        })
+pub(crate) fn following(at: Position) -> Position
+    ensures { result ≡ following at }
+{
+    Position {
+        phase: at.phase.saturating_add(1),
+        ..at
+    }
+}
+
+// NS, or without it the following phase; none at the end of the run.
+pub(crate) fn next_of(at: Position, next: Option<u8>) -> Option<Position>
+    ensures { result ≡ next_of at next }
+{
+    match next {
+        None => Some(following(at)),
+        Some(END) => None,
+        Some(phase) => Some(Position { phase, ..at }),
     }
 }

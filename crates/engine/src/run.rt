@@ -1,8 +1,12 @@
 // A run of a sequence.
-use crate::position::Position;
+ghost use Rattle.std.specs.Prelude.{◌≡◌};
+ghost use Rattle.engine.specs.Progress.{progress, outcome, activity_of, stays};
+
+use crate::effects::Effects;
+use crate::outcome::Outcome;
 use crate::returns::Returns;
 use motion::{Movement, Speed};
-use phases::Phase;
+use phases::{Phase, Position};
 
 mod entering;
 mod leaving;
@@ -24,4 +28,17 @@ pub struct Run {
     // the plateau set by NC
     plateau: Option<Speed>,
     returns: Returns,
+}
+
+impl Run {
+    // The run stays at its phase, in that state.
+    fn stay(self, effects: Effects, state: State) -> Outcome
+        ensures { outcome result ≡ stays (progress self) effects (activity_of state) }
+    {
+        let run = Run { state, ..self };
+        Outcome {
+            effects,
+            rest: Some(run),
+        }
+    }
 }

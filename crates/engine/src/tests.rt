@@ -1,8 +1,8 @@
 // Runs with the parameters of a new module.
-use crate::Run;
+use crate::{Run, Surroundings};
 use motion::Parameters;
-use phases::{Link, Nature, Phase};
-use store::Directory;
+use phases::{Inputs, Link, Nature, Phase, Position};
+use store::{Block, Directory};
 
 const POWER_ON: Phase = Phase {
     written: true,
@@ -28,9 +28,15 @@ fn end(memory: &[Phase], directory: &Directory, levels: u8) -> u32 {
     let mut run = Some(Run::new(1));
     for tick in 1..201 {
         let Some(going) = run else { break };
-        let (effects, rest) = going.tick(memory, directory, 0, levels, Parameters::initial());
-        run = rest;
-        if effects.ended {
+        let outcome = going.tick(&Surroundings {
+            memory,
+            directory,
+            counter: 0,
+            levels,
+            parameters: Parameters::initial(),
+        });
+        run = outcome.rest;
+        if outcome.effects.ended {
             return tick;
         }
     }
@@ -41,10 +47,36 @@ fn end(memory: &[Phase], directory: &Directory, levels: u8) -> u32 {
 fn end_of_two(phase: Phase, levels: u8) -> u32 {
     let mut memory = [Phase::BLANK; 414];
     let mut directory = Directory::new();
-    let _ = directory.create(&mut memory, 1, 1);
-    let _ = directory.create(&mut memory, 2, 1);
-    let _ = directory.write(&mut memory, 1, 1, phase);
-    let _ = directory.write(&mut memory, 2, 1, WAIT);
+    let _ = directory.create(
+        &mut memory,
+        Block {
+            number: 1,
+            reserve: 1,
+        },
+    );
+    let _ = directory.create(
+        &mut memory,
+        Block {
+            number: 2,
+            reserve: 1,
+        },
+    );
+    let _ = directory.write(
+        &mut memory,
+        Position {
+            sequence: 1,
+            phase: 1,
+        },
+        phase,
+    );
+    let _ = directory.write(
+        &mut memory,
+        Position {
+            sequence: 2,
+            phase: 1,
+        },
+        WAIT,
+    );
     end(&memory, &directory, levels)
 }
 
@@ -53,10 +85,37 @@ fn end_of_two(phase: Phase, levels: u8) -> u32 {
 fn step_wait_and_power(rt: HostRuntime) {
     let mut memory = [Phase::BLANK; 414];
     let mut directory = Directory::new();
-    let _ = directory.create(&mut memory, 1, 3);
-    let _ = directory.write(&mut memory, 1, 1, STEP);
-    let _ = directory.write(&mut memory, 1, 2, WAIT);
-    let _ = directory.write(&mut memory, 1, 3, POWER_ON);
+    let _ = directory.create(
+        &mut memory,
+        Block {
+            number: 1,
+            reserve: 3,
+        },
+    );
+    let _ = directory.write(
+        &mut memory,
+        Position {
+            sequence: 1,
+            phase: 1,
+        },
+        STEP,
+    );
+    let _ = directory.write(
+        &mut memory,
+        Position {
+            sequence: 1,
+            phase: 2,
+        },
+        WAIT,
+    );
+    let _ = directory.write(
+        &mut memory,
+        Position {
+            sequence: 1,
+            phase: 3,
+        },
+        POWER_ON,
+    );
     assert_eq!(rt; end(&memory, &directory, 0), 124);
 }
 
@@ -64,9 +123,11 @@ fn step_wait_and_power(rt: HostRuntime) {
 #[test]
 fn link_by_ne(rt: HostRuntime) {
     let phase = Phase {
-        link: Link::Sequence(2),
-        named: 1,
-        levels: 1,
+        link: Some(Link::Sequence(2)),
+        inputs: Inputs {
+            named: 1,
+            levels: 1,
+        },
         ..POWER_ON
     };
     assert_eq!(rt; (end_of_two(phase, 1), end_of_two(phase, 0)), (43, 2));
@@ -76,7 +137,7 @@ fn link_by_ne(rt: HostRuntime) {
 #[test]
 fn return_from_sub_sequence(rt: HostRuntime) {
     let phase = Phase {
-        link: Link::SubSequence(2),
+        link: Some(Link::SubSequence(2)),
         ..POWER_ON
     };
     let last = Phase {

@@ -4,6 +4,8 @@
 ghost use Rattle.std.specs.Prelude.{◌≡◌};
 ghost use Rattle.faults.specs.Faults.{number_of, name_of, stopped, bad_line, unknown_command, wrong_form, is_busy, start_past_plateau, past_limit, no_such_phase, no_sequence, sequence_exists, memory_full, past_reserve, wrong_memory, short_reply, wrong_address};
 
+use std::fmt;
+
 // The cause of a refusal; its number is told by the module.
 #[derive(Clone, Copy, PartialEq, Debug)]
 pub enum Cause {
@@ -35,23 +37,23 @@ pub enum Place {
     Run,
 }
 
-// A refusal: the cause, the place, and the word at fault or missing, 0 for none.
+// A refusal: the cause, the place, and the word at fault or missing, if there is one.
 #[derive(Clone, Copy, PartialEq, Debug)]
 pub struct Fault {
     pub cause: Cause,
     pub place: Place,
-    pub word: u8,
+    pub word: Option<u8>,
 }
 
 impl Cause {
-    // The number that the module tells for this cause.
+    // The number that the module tells for this cause: the one that its case carries.
     pub fn number(self) -> u8
         ensures { result ≡ number_of self }
     {
         self as u8
     }
 
-    fn at(self, place: Place, word: u8) -> Fault
+    fn at(self, place: Place, word: Option<u8>) -> Fault
         ensures { result ≡ stopped self place word }
     {
         Fault {
@@ -64,18 +66,24 @@ impl Cause {
 
 impl Place {
     // The name of the place.
-    pub fn name(self) -> &'static [u8]
+    pub fn name(self) -> &'static str
         ensures { result.now ≡ name_of self }
     {
         match self {
-            Place::Caller => b"caller",
-            Place::Receiver => b"receiver",
-            Place::Reader => b"reader",
-            Place::State => b"state",
-            Place::Values => b"values",
-            Place::Store => b"store",
-            Place::Run => b"run",
+            Place::Caller => "caller",
+            Place::Receiver => "receiver",
+            Place::Reader => "reader",
+            Place::State => "state",
+            Place::Values => "values",
+            Place::Store => "store",
+            Place::Run => "run",
         }
+    }
+}
+
+impl fmt::Display for Place {
+    fn fmt<W: fmt::Write>(&self, f: &mut fmt::Formatter<W>) -> fmt::Result {
+        f.pad(self.name())
     }
 }
 
@@ -84,97 +92,97 @@ impl Fault {
     pub fn bad_line() -> Fault
         ensures { result ≡ bad_line }
     {
-        Cause::BadLine.at(Place::Receiver, 0)
+        Cause::BadLine.at(Place::Receiver, None)
     }
 
     // The first word names no command.
     pub fn unknown_command() -> Fault
         ensures { result ≡ unknown_command }
     {
-        Cause::UnknownCommand.at(Place::Reader, 1)
+        Cause::UnknownCommand.at(Place::Reader, Some(1))
     }
 
     // Word `at` is missing, surplus or of wrong form.
     pub fn wrong_form(at: u8) -> Fault
         ensures { result ≡ wrong_form at }
     {
-        Cause::WrongForm.at(Place::Reader, at)
+        Cause::WrongForm.at(Place::Reader, Some(at))
     }
 
     // The module is busy, and the command is not taken then.
     pub fn busy() -> Fault
         ensures { result ≡ is_busy }
     {
-        Cause::Busy.at(Place::State, 0)
+        Cause::Busy.at(Place::State, None)
     }
 
     // The start speed in word 2 would pass the plateau speed.
     pub fn start_past_plateau() -> Fault
         ensures { result ≡ start_past_plateau }
     {
-        Cause::StartPastPlateau.at(Place::Values, 2)
+        Cause::StartPastPlateau.at(Place::Values, Some(2))
     }
 
     // The value of word `at` is past its limit.
     pub fn past_limit(at: u8) -> Fault
         ensures { result ≡ past_limit at }
     {
-        Cause::PastLimit.at(Place::Values, at)
+        Cause::PastLimit.at(Place::Values, Some(at))
     }
 
     // Word `at` numbers no phase of any sequence.
     pub fn no_such_phase(at: u8) -> Fault
         ensures { result ≡ no_such_phase at }
     {
-        Cause::NoSuchPhase.at(Place::Values, at)
+        Cause::NoSuchPhase.at(Place::Values, Some(at))
     }
 
     // There is no sequence of the number in word 2.
     pub fn no_sequence() -> Fault
         ensures { result ≡ no_sequence }
     {
-        Cause::NoSequence.at(Place::Store, 2)
+        Cause::NoSequence.at(Place::Store, Some(2))
     }
 
     // There is a sequence of the number in word 2 already.
     pub fn sequence_exists() -> Fault
         ensures { result ≡ sequence_exists }
     {
-        Cause::SequenceExists.at(Place::Store, 2)
+        Cause::SequenceExists.at(Place::Store, Some(2))
     }
 
     // The phases already reserved and those of word 3 pass 414.
     pub fn memory_full() -> Fault
         ensures { result ≡ memory_full }
     {
-        Cause::MemoryFull.at(Place::Store, 3)
+        Cause::MemoryFull.at(Place::Store, Some(3))
     }
 
     // The phase of word 3 is above the sequence's reserve.
     pub fn past_reserve() -> Fault
         ensures { result ≡ past_reserve }
     {
-        Cause::NoSuchPhase.at(Place::Store, 3)
+        Cause::NoSuchPhase.at(Place::Store, Some(3))
     }
 
     // The phase memory has not 414 records.
     pub fn wrong_memory() -> Fault
         ensures { result ≡ wrong_memory }
     {
-        Cause::WrongMemory.at(Place::Caller, 0)
+        Cause::WrongMemory.at(Place::Caller, None)
     }
 
     // The reply buffer has under 80 bytes.
     pub fn short_reply() -> Fault
         ensures { result ≡ short_reply }
     {
-        Cause::ShortReply.at(Place::Caller, 0)
+        Cause::ShortReply.at(Place::Caller, None)
     }
 
     // The address is above 63.
     pub fn wrong_address() -> Fault
         ensures { result ≡ wrong_address }
     {
-        Cause::WrongAddress.at(Place::Caller, 0)
+        Cause::WrongAddress.at(Place::Caller, None)
     }
 }

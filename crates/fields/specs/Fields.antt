@@ -5,6 +5,8 @@ use Rattle.std.specs.Option.{option_map}
 use Rattle.std.specs.Str.{bytes_eq}
 use Rattle.faults.specs.declared.Fault.{Fault}
 use Rattle.words.specs.Numbers.{value_of, signed_of}
+use Rattle.words.specs.declared.word.Word.{Word}
+use Rattle.words.specs.declared.word.Word.TheVariants.{Command, Number, Hexadecimal, Marks, Tag}
 use Rattle.words.specs.Readings.{by, unsigned, end}
 use Rattle.words.specs.Tags.{is_tag, past_field}
 use Rattle.words.specs.Words.{Ahead, upcoming, past}
@@ -15,10 +17,10 @@ use Rattle.senses.specs.declared.Sense.TheVariants.{Forward, Back}
 use Rattle.fields.specs.declared.fields.Address.{Address}
 use Rattle.fields.specs.declared.fields.Amount.{Amount}
 use Rattle.fields.specs.declared.fields.Course.{Course}
-use Rattle.fields.specs.declared.fields.Inputs.{Inputs}
+use Rattle.phases.specs.declared.phase.Inputs.{Inputs}
+use Rattle.phases.specs.declared.phase.Link.{Link}
+use Rattle.phases.specs.declared.phase.Link.TheVariants as link
 use Rattle.fields.specs.declared.fields.Motion.{Motion}
-use Rattle.fields.specs.declared.fields.RawLink.{RawLink}
-use Rattle.fields.specs.declared.fields.RawLink.TheVariants as raw
 use Rattle.fields.specs.declared.fields.RawPhase.{RawPhase}
 
 -- S+ or S-
@@ -67,19 +69,31 @@ are_marks (m ∷ ms) = is_mark m && are_marks ms
 abbrev pub inputs_of : List ℕ → Option Inputs
 inputs_of w = cond (length w == 8 && are_marks w) (Some (record { named = named_of w; levels = levels_of w })) None
 
+-- a number with the number of its word
+abbrev pub placed : ℕ → Option ℕ → Option Amount
+placed i v = option_map (λ n. record { value = n; at = i }) v
+
 -- a number at word i, or XX for none
 abbrev pub amount_of : ℕ → List ℕ → Option (Option Amount)
-amount_of i w = cond (bytes_eq w (codes "XX")) (Some None) (option_map (λ n. Some (record { value = n; at = i })) (value_of 10 10 w))
+amount_of i w = cond (bytes_eq w (codes "XX")) (Some None) (option_map Some (placed i (value_of 10 10 w)))
 
 abbrev pub hexadecimal_of : ℕ → List ℕ → Option (Option Amount)
-hexadecimal_of i w = cond (bytes_eq w (codes "XX")) (Some None) (option_map (λ n. Some (record { value = n; at = i })) (value_of 16 8 w))
+hexadecimal_of i w = cond (bytes_eq w (codes "XX")) (Some None) (option_map Some (placed i (value_of 16 8 w)))
+
+-- the same of a word, by the base of its sort
+abbrev pub amount_by : ℕ → Word → Option (Option Amount)
+amount_by i (Command t) = None
+amount_by i (Number t) = amount_of i t.now
+amount_by i (Hexadecimal t) = hexadecimal_of i t.now
+amount_by i (Marks t) = None
+amount_by i (Tag t) = None
 
 -- the sequence of a link at word i: behind NL it may be XX, behind NQ it may not
-abbrev pub sequence_of : ℕ → List ℕ → Option RawLink
-sequence_of i w = cond (bytes_eq w (codes "XX")) (Some raw.None) (option_map (λ n. raw.Sequence (record { value = n; at = i })) (value_of 10 10 w))
+abbrev pub sequence_of : ℕ → List ℕ → Option (Option (Link Amount))
+sequence_of i w = option_map (option_map link.Sequence) (amount_of i w)
 
-abbrev pub sub_sequence_of : ℕ → List ℕ → Option RawLink
-sub_sequence_of i w = option_map (λ n. raw.SubSequence (record { value = n; at = i })) (value_of 10 10 w)
+abbrev pub sub_sequence_of : ℕ → List ℕ → Option (Option (Link Amount))
+sub_sequence_of i w = option_map (λ n. Some (link.SubSequence n)) (placed i (value_of 10 10 w))
 
 -- the fields of a phase; one that is left out says what XX or eight X say
 abbrev pub sense_in : Ahead → Result Sense Fault
@@ -91,11 +105,11 @@ nature_in s = by nature_of (upcoming s) s.1
 abbrev pub set_point_in : Ahead → Result ℤ Fault
 set_point_in s = by set_point_of (upcoming s) s.1
 
-unfoldable pub link_in : Ahead → Result RawLink Fault
+unfoldable pub link_in : Ahead → Result (Option (Link Amount)) Fault
 link_in s =
     cond (is_tag (codes "NL") (upcoming s)) (by (sequence_of (past s).1) (upcoming (past s)) (past s).1) (
     cond (is_tag (codes "NQ") (upcoming s)) (by (sub_sequence_of (past s).1) (upcoming (past s)) (past s).1) (
-    Ok raw.None))
+    Ok None))
 
 unfoldable pub past_link : Ahead → Ahead
 past_link s = cond (is_tag (codes "NL") (upcoming s)) (past (past s)) (cond (is_tag (codes "NQ") (upcoming s)) (past (past s)) s)

@@ -1,36 +1,22 @@
 // The words of the command SP, read into the fields of a phase.
-ghost use Rattle.std.specs.Prelude.{◌≡◌, codes, OnOk};
+ghost use Rattle.std.specs.Prelude.{◌≡◌, length, OnOk, if◌then◌else◌, Some, None};
+ghost use Rattle.std.specs.Option.{option_and_then, option_map};
 ghost use Rattle.words.specs.Left.{ahead};
-ghost use Rattle.words.specs.Readings.{by, number_text, hexadecimal_text, marks_text, tag_text};
-ghost use Rattle.words.specs.Tags.{past_field};
+ghost use Rattle.words.specs.Sorts.{number_in, number_text, marks_text, tag_text};
 ghost use Rattle.words.specs.Words.{past};
-ghost use Rattle.fields.specs.Fields.{sense_of, nature_of, set_point_of, is_mark, named_by, level_by, inputs_of, amount_of, hexadecimal_of, sequence_of, sub_sequence_of, sense_in, nature_in, set_point_in, link_in, past_link, inputs_in, next_in, outputs_in, address_in, motion_in, course_in, past_course, sp_form};
+ghost use Rattle.phases.specs.declared.phase.Link.TheVariants as link;
+ghost use Rattle.fields.specs.Fields.{sense_of, nature_of, set_point_of, is_mark, named_by, level_by, inputs_of, placed, amount_by, link_in, past_link, address_in, motion_in, course_in, past_course, sp_form};
 
 use faults::Fault;
-use phases::Nature;
+use phases::{Inputs, Link, Nature};
 use senses::Sense;
-use words::{Placed, Reader, Word, decimal_value, hexadecimal_value, is, signed_value};
+use words::{Placed, Reader, Word, signed_value};
 
 // A number with the number of its word.
 #[derive(Clone, Copy)]
 pub struct Amount {
     pub value: u64,
     pub at: u8,
-}
-
-// The link as its words give it.
-#[derive(Clone, Copy)]
-pub enum RawLink {
-    None,
-    Sequence(Amount),
-    SubSequence(Amount),
-}
-
-// The inputs that a phase names, and the levels that it asks of them.
-#[derive(Clone, Copy)]
-pub struct Inputs {
-    pub named: u8,
-    pub levels: u8,
 }
 
 // The sequence and the phase in it.
@@ -51,7 +37,7 @@ pub struct Motion {
 // How the run goes on behind a phase.
 #[derive(Clone, Copy)]
 pub struct Course {
-    pub link: RawLink,
+    pub link: Option<Link<Amount>>,
     pub inputs: Inputs,
     pub next: Option<Amount>,
     pub outputs: Option<Amount>,
@@ -65,295 +51,128 @@ pub struct RawPhase {
     pub course: Course,
 }
 
-fn sense_of(text: &[u8]) -> Option<Sense>
-    ensures { result ≡ sense_of text.now }
-{
-    if is(text, b"S+") {
-        Some(Sense::Forward)
-    } else if is(text, b"S-") {
-        Some(Sense::Back)
-    } else {
-        None
-    }
-}
-
-fn nature_of(text: &[u8]) -> Option<Nature>
-    ensures { result ≡ nature_of text.now }
-{
-    if is(text, b"NP") {
-        Some(Nature::Relative)
-    } else if is(text, b"NH") {
-        Some(Nature::Origin)
-    } else if is(text, b"NX") {
-        Some(Nature::Absolute)
-    } else if is(text, b"NV") {
-        Some(Nature::ConstantSpeed)
-    } else if is(text, b"NW") {
-        Some(Nature::Wait)
-    } else if is(text, b"NZ") {
-        Some(Nature::ZeroCounter)
-    } else if is(text, b"NC") {
-        Some(Nature::PlateauSpeed)
-    } else if is(text, b"NT") {
-        Some(Nature::PowerOn)
-    } else if is(text, b"NU") {
-        Some(Nature::PowerOff)
-    } else {
-        None
-    }
-}
-
-fn set_point_of(text: &[u8]) -> Option<i64>
-    ensures { result ≡ set_point_of text.now }
-{
-    if text.len() > 0 && text[0] == b'C' {
-        signed_value(&text[1..])
-    } else {
-        None
-    }
-}
-
-// Whether a character is a mark.
-fn is_mark(c: u8) -> bool
-    ensures { result ≡ is_mark c }
-{
-    c == b'0' || c == b'1' || c == b'X'
-}
-
-// 1 where the mark names its input.
-fn named_by(mark: u8) -> u8
-    ensures { result ≡ named_by mark }
-{
-    if mark == b'X' { 0 } else { 1 }
-}
-
-// 1 where the mark asks for the high level.
-fn level_by(mark: u8) -> u8
-    ensures { result ≡ level_by mark }
-{
-    if mark == b'1' { 1 } else { 0 }
-}
-
-// What eight marks ask for.
-fn inputs_of(text: &[u8]) -> Option<Inputs>
-    ensures { result ≡ inputs_of text.now }
-{
-    if text.len() != 8 {
-        return None;
-    }
-    let mut named: u8 = 0;
-    let mut levels: u8 = 0;
-    let mut i = 8;
-    while i > 0 {
-        i -= 1;
-        if !is_mark(text[i]) {
-            return None;
-        }
-        named = 2 * named + named_by(text[i]);
-        levels = 2 * levels + level_by(text[i]);
-    }
-    Some(Inputs { named, levels })
-}
-
-// A decimal number that may be left out as XX.
-fn amount_of(text: &[u8], at: u8) -> Option<Option<Amount>>
-    ensures { result ≡ amount_of at text.now }
-{
-    if is(text, b"XX") {
-        return Some(None);
-    }
-    let value = decimal_value(text)?;
-    Some(Some(Amount { value, at }))
-}
-
-// A hexadecimal number that may be left out as XX.
-fn hexadecimal_of(text: &[u8], at: u8) -> Option<Option<Amount>>
-    ensures { result ≡ hexadecimal_of at text.now }
-{
-    if is(text, b"XX") {
-        return Some(None);
-    }
-    let value = hexadecimal_value(text)?;
-    Some(Some(Amount { value, at }))
-}
-
-// A sequence to go on with, or XX for none.
-fn sequence_of(text: &[u8], at: u8) -> Option<RawLink>
-    ensures { result ≡ sequence_of at text.now }
-{
-    if is(text, b"XX") {
-        return Some(RawLink::None);
-    }
-    let value = decimal_value(text)?;
-    Some(RawLink::Sequence(Amount { value, at }))
-}
-
-// A sub-sequence.
-fn sub_sequence_of(text: &[u8], at: u8) -> Option<RawLink>
-    ensures { result ≡ sub_sequence_of at text.now }
-{
-    let value = decimal_value(text)?;
-    Some(RawLink::SubSequence(Amount { value, at }))
-}
-
-fn said_sense(word: &Placed) -> Result<Sense, Fault>
-    ensures { result ≡ by sense_of (tag_text word.now.word) word.now.at }
-{
-    let Word::Tag(text) = word.word else {
-        return Err(Fault::wrong_form(word.at));
-    };
-    sense_of(text).ok_or(Fault::wrong_form(word.at))
-}
-
-fn said_nature(word: &Placed) -> Result<Nature, Fault>
-    ensures { result ≡ by nature_of (tag_text word.now.word) word.now.at }
-{
-    let Word::Tag(text) = word.word else {
-        return Err(Fault::wrong_form(word.at));
-    };
-    nature_of(text).ok_or(Fault::wrong_form(word.at))
-}
-
-fn said_set_point(word: &Placed) -> Result<i64, Fault>
-    ensures { result ≡ by set_point_of (number_text word.now.word) word.now.at }
-{
-    let Word::Number(text) = word.word else {
-        return Err(Fault::wrong_form(word.at));
-    };
-    set_point_of(text).ok_or(Fault::wrong_form(word.at))
-}
-
-fn said_inputs(word: &Placed) -> Result<Inputs, Fault>
-    ensures { result ≡ by inputs_of (marks_text word.now.word) word.now.at }
-{
-    let Word::Marks(text) = word.word else {
-        return Err(Fault::wrong_form(word.at));
-    };
-    inputs_of(text).ok_or(Fault::wrong_form(word.at))
-}
-
-fn said_sequence(word: &Placed) -> Result<RawLink, Fault>
-    ensures { result ≡ by (sequence_of word.now.at) (number_text word.now.word) word.now.at }
-{
-    let Word::Number(text) = word.word else {
-        return Err(Fault::wrong_form(word.at));
-    };
-    sequence_of(text, word.at).ok_or(Fault::wrong_form(word.at))
-}
-
-fn said_sub_sequence(word: &Placed) -> Result<RawLink, Fault>
-    ensures { result ≡ by (sub_sequence_of word.now.at) (number_text word.now.word) word.now.at }
-{
-    let Word::Number(text) = word.word else {
-        return Err(Fault::wrong_form(word.at));
-    };
-    sub_sequence_of(text, word.at).ok_or(Fault::wrong_form(word.at))
-}
-
-fn said_amount(word: &Placed) -> Result<Option<Amount>, Fault>
-    ensures { result ≡ by (amount_of word.now.at) (number_text word.now.word) word.now.at }
-{
-    let Word::Number(text) = word.word else {
-        return Err(Fault::wrong_form(word.at));
-    };
-    amount_of(text, word.at).ok_or(Fault::wrong_form(word.at))
-}
-
-fn said_hexadecimal(word: &Placed) -> Result<Option<Amount>, Fault>
-    ensures { result ≡ by (hexadecimal_of word.now.at) (hexadecimal_text word.now.word) word.now.at }
-{
-    let Word::Hexadecimal(text) = word.word else {
-        return Err(Fault::wrong_form(word.at));
-    };
-    hexadecimal_of(text, word.at).ok_or(Fault::wrong_form(word.at))
-}
-
 // S+ or S-.
-fn read_sense(reader: &mut Reader) -> Result<Sense, Fault>
-    ensures value { result ≡ sense_in (ahead reader.old) }
-    ensures ahead { ahead reader.new ≡ past (ahead reader.old) }
+fn sense_of(word: Placed) -> Option<Sense>
+    ensures { result ≡ option_and_then sense_of (tag_text word.entry.word) }
 {
-    let word = reader.tag()?;
-    said_sense(&word)
+    match word.word {
+        Word::Tag(b"S+") => Some(Sense::Forward),
+        Word::Tag(b"S-") => Some(Sense::Back),
+        _ => None,
+    }
 }
 
-// The nature.
-fn read_nature(reader: &mut Reader) -> Result<Nature, Fault>
-    ensures value { result ≡ nature_in (ahead reader.old) }
-    ensures ahead { ahead reader.new ≡ past (ahead reader.old) }
+fn nature_of(word: Placed) -> Option<Nature>
+    ensures { result ≡ option_and_then nature_of (tag_text word.entry.word) }
 {
-    let word = reader.tag()?;
-    said_nature(&word)
+    match word.word {
+        Word::Tag(b"NP") => Some(Nature::Relative),
+        Word::Tag(b"NH") => Some(Nature::Origin),
+        Word::Tag(b"NX") => Some(Nature::Absolute),
+        Word::Tag(b"NV") => Some(Nature::ConstantSpeed),
+        Word::Tag(b"NW") => Some(Nature::Wait),
+        Word::Tag(b"NZ") => Some(Nature::ZeroCounter),
+        Word::Tag(b"NC") => Some(Nature::PlateauSpeed),
+        Word::Tag(b"NT") => Some(Nature::PowerOn),
+        Word::Tag(b"NU") => Some(Nature::PowerOff),
+        _ => None,
+    }
 }
 
 // C and the set point.
-fn read_set_point(reader: &mut Reader) -> Result<i64, Fault>
-    ensures value { result ≡ set_point_in (ahead reader.old) }
-    ensures ahead { ahead reader.new ≡ past (ahead reader.old) }
+fn set_point_of(word: Placed) -> Option<i64>
+    ensures { result ≡ option_and_then set_point_of (number_text word.entry.word) }
 {
-    let word = reader.number()?;
-    said_set_point(&word)
+    match word.word {
+        Word::Number([b'C', number @ ..]) => signed_value(number),
+        _ => None,
+    }
+}
+
+// Whether a mark names its input, and whether it asks for the high level.
+fn mark_of(mark: u8) -> Option<(u8, u8)>
+    ensures { result ≡ (if is_mark mark then Some (named_by mark, level_by mark) else None) }
+{
+    match mark {
+        b'X' => Some((0, 0)),
+        b'0' => Some((1, 0)),
+        b'1' => Some((1, 1)),
+        _ => None,
+    }
+}
+
+// What eight marks ask for.
+fn inputs_of(word: Placed) -> Option<Inputs>
+    ensures { result ≡ option_and_then inputs_of (marks_text word.entry.word) }
+{
+    match word.word {
+        Word::Marks(marks) if marks.len() == 8 => inputs_from(marks),
+        _ => None,
+    }
+}
+
+fn inputs_from(marks: &[u8]) -> Option<Inputs>
+    requires { length marks.now ≡ 8 }
+    ensures { result ≡ inputs_of marks.now }
+{
+    let mut inputs = Inputs::NONE;
+    for mark in marks.iter().rev() {
+        let (named, level) = mark_of(*mark)?;
+        inputs = Inputs {
+            named: 2 * inputs.named + named,
+            levels: 2 * inputs.levels + level,
+        };
+    }
+    Some(inputs)
+}
+
+// A number with the number of its word.
+fn placed_number(word: Placed) -> Option<Amount>
+    ensures { result ≡ placed word.entry.at (number_in word.entry.word) }
+{
+    let value = word.number()?;
+    Some(Amount { value, at: word.at })
+}
+
+// A number that may be left out as XX.
+fn amount_of(word: Placed) -> Option<Option<Amount>>
+    ensures { result ≡ amount_by word.entry.at word.entry.word }
+{
+    match word.word {
+        Word::Number(b"XX") | Word::Hexadecimal(b"XX") => Some(None),
+        _ => placed_number(word).map(Some),
+    }
+}
+
+// A sequence to go on with, or XX for none.
+fn sequence_of(word: Placed) -> Option<Option<Link<Amount>>>
+    ensures { result ≡ option_map (option_map link.Sequence) (amount_by word.entry.at word.entry.word) }
+{
+    amount_of(word).map(|n| n.map(Link::Sequence))
+}
+
+// A sub-sequence.
+fn sub_sequence_of(word: Placed) -> Option<Option<Link<Amount>>>
+    ensures { result ≡ option_map (λ n. Some (link.SubSequence n)) (placed word.entry.at (number_in word.entry.word)) }
+{
+    placed_number(word).map(|n| Some(Link::SubSequence(n)))
 }
 
 // The link, if there is one.
-fn read_link(reader: &mut Reader) -> Result<RawLink, Fault>
+#[tactic(auto, unfolding(crate::specs::Fields::link_in, crate::specs::Fields::past_link, words::specs::Tags::past_field))]
+fn read_link(reader: &mut Reader) -> Result<Option<Link<Amount>>, Fault>
     ensures value { result ≡ link_in (ahead reader.old) }
     ensures ahead { ahead reader.new ≡ past_link (ahead reader.old) }
 {
     if reader.has_tag(b"NL") {
-        let sequence = reader.number()?;
-        said_sequence(&sequence)
-    } else if reader.has_tag(b"NQ") {
-        let sub_sequence = reader.number()?;
-        said_sub_sequence(&sub_sequence)
+        reader.read(Word::Number, sequence_of)
     } else {
-        Ok(RawLink::None)
-    }
-}
-
-// The marks, if there are any.
-fn read_inputs(reader: &mut Reader) -> Result<Inputs, Fault>
-    ensures value { result ≡ inputs_in (ahead reader.old) }
-    ensures ahead { ahead reader.new ≡ past_field (codes "NE") (ahead reader.old) }
-{
-    if reader.has_tag(b"NE") {
-        let word = reader.marks()?;
-        said_inputs(&word)
-    } else {
-        Ok(Inputs {
-            named: 0,
-            levels: 0,
-        })
-    }
-}
-
-// The phase to go on with, if it is named.
-fn read_next(reader: &mut Reader) -> Result<Option<Amount>, Fault>
-    ensures value { result ≡ next_in (ahead reader.old) }
-    ensures ahead { ahead reader.new ≡ past_field (codes "NS") (ahead reader.old) }
-{
-    if reader.has_tag(b"NS") {
-        let word = reader.number()?;
-        said_amount(&word)
-    } else {
-        Ok(None)
-    }
-}
-
-// The outputs, if they are named.
-fn read_outputs(reader: &mut Reader) -> Result<Option<Amount>, Fault>
-    ensures value { result ≡ outputs_in (ahead reader.old) }
-    ensures ahead { ahead reader.new ≡ past_field (codes "NO") (ahead reader.old) }
-{
-    if reader.has_tag(b"NO") {
-        let word = reader.hexadecimal()?;
-        said_hexadecimal(&word)
-    } else {
-        Ok(None)
+        reader.field(b"NQ", Word::Number, sub_sequence_of, None)
     }
 }
 
 // The sequence and the phase.
+#[tactic(auto, unfolding(crate::specs::Fields::address_in))]
 fn read_address(reader: &mut Reader) -> Result<Address, Fault>
     ensures value { result ≡ address_in (ahead reader.old) }
     ensures ahead { OnOk result (ahead reader.new ≡ past (past (ahead reader.old))) }
@@ -364,13 +183,14 @@ fn read_address(reader: &mut Reader) -> Result<Address, Fault>
 }
 
 // What the phase does.
+#[tactic(auto, unfolding(crate::specs::Fields::motion_in))]
 fn read_motion(reader: &mut Reader) -> Result<Motion, Fault>
     ensures value { result ≡ motion_in (ahead reader.old) }
     ensures ahead { OnOk result (ahead reader.new ≡ past (past (past (ahead reader.old)))) }
 {
-    let sense = read_sense(reader)?;
-    let nature = read_nature(reader)?;
-    let set_point = read_set_point(reader)?;
+    let sense = reader.read(Word::Tag, sense_of)?;
+    let nature = reader.read(Word::Tag, nature_of)?;
+    let set_point = reader.read(Word::Number, set_point_of)?;
     Ok(Motion {
         sense,
         nature,
@@ -379,14 +199,15 @@ fn read_motion(reader: &mut Reader) -> Result<Motion, Fault>
 }
 
 // How the run goes on.
+#[tactic(auto, unfolding(crate::specs::Fields::course_in, crate::specs::Fields::past_course, crate::specs::Fields::inputs_in, crate::specs::Fields::next_in, crate::specs::Fields::outputs_in))]
 fn read_course(reader: &mut Reader) -> Result<Course, Fault>
     ensures value { result ≡ course_in (ahead reader.old) }
     ensures ahead { OnOk result (ahead reader.new ≡ past_course (ahead reader.old)) }
 {
     let link = read_link(reader)?;
-    let inputs = read_inputs(reader)?;
-    let next = read_next(reader)?;
-    let outputs = read_outputs(reader)?;
+    let inputs = reader.field(b"NE", Word::Marks, inputs_of, Inputs::NONE)?;
+    let next = reader.field(b"NS", Word::Number, amount_of, None)?;
+    let outputs = reader.field(b"NO", Word::Hexadecimal, amount_of, None)?;
     Ok(Course {
         link,
         inputs,

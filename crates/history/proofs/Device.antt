@@ -1,5 +1,5 @@
 -- The module keeps what the law of histories asks of a device.
-use Rattle.std.proofs.Common.{◌≡◌, ℕ, ◌<◌, Bool, true, false, cond, ◌||◌, List, [], ◌∷◌, ◌++◌, ℤ, pos, ◌+ℤ◌, Some, None, Ok, Err, fold, Option, Result, unwrap_or, sym, refl, ap, ◌∙◌, subst, arith}
+use Rattle.std.proofs.Common.{◌≡◌, ℕ, ◌<◌, Bool, true, false, cond, ◌||◌, List, [], ◌∷◌, ◌++◌, ℤ, pos, ◌+ℤ◌, Some, None, Ok, Err, fold, Option, Result, unwrap_or, sym, refl, ap, ◌∙◌, subst, arith, rules}
 use borrow.Author.Differences.{ints}
 use lib.IntN.{+ℤ_idr}
 use Rattle.std.proofs.lemmas.List.{append-nil, append_assoc}
@@ -23,7 +23,6 @@ use Rattle.engine.specs.declared.effects.Effects.{Effects}
 use Rattle.engine.specs.declared.effects.Power.{Power}
 use Rattle.engine.specs.declared.effects.Power.TheVariants.{On, Off}
 use Rattle.orders.specs.declared.order.Order.{Order}
-use Rattle.orders.specs.declared.order.Order.TheVariants.{StartSpeed, PlateauSpeed, Slope, Distance, Forward, Back, ZeroCounter, SetCounter, Move, MoveToOrigin, MoveTo, SlowStop, PowerOn, PowerOff, SetOutputs, Create, Erase, Choose, Start, Write, ReadPhase, Restart, ReadParameters, ReadPosition, ReadVersion, ReadFault}
 use Rattle.orders.specs.Judged.{judged_to}
 use Rattle.orders.proofs.Accepted.{Within, CounterFits, accepted_fits}
 use Rattle.control.specs.declared.control.Change.{Change}
@@ -115,61 +114,11 @@ none_some : {A : Type 0} (v : ℤ) → ◌≡◌ {A = Option ℤ} None (Some v) 
 none_some v e = let z : ◌≡◌ {A = ℕ} 0 1 = cc in absurd (omega arith)
 
 change_fits : (c : Option ℕ) (o : Order) (v : ℤ) → CounterFits o → (order_change c o).counter ≡ Some v → wrapped24 v ≡ v
-change_fits c (StartSpeed n) v f e = none_some v e
-change_fits c (PlateauSpeed n) v f e = none_some v e
-change_fits c (Slope n) v f e = none_some v e
-change_fits c (Distance n) v f e = none_some v e
-change_fits c Forward v f e = none_some v e
-change_fits c Back v f e = none_some v e
-change_fits c ZeroCounter v f e = let k : pos 0 ≡ v = cc in subst (λ z. wrapped24 z ≡ z) k zero_fits
-change_fits c (SetCounter n) v f e = let k : n ≡ v = cc in subst (λ z. wrapped24 z ≡ z) k (within_fits n f)
-change_fits c Move v f e = none_some v e
-change_fits c MoveToOrigin v f e = none_some v e
-change_fits c (MoveTo n) v f e = none_some v e
-change_fits c SlowStop v f e = none_some v e
-change_fits c PowerOn v f e = none_some v e
-change_fits c PowerOff v f e = none_some v e
-change_fits c (SetOutputs n) v f e = none_some v e
-change_fits c (Create n p) v f e = none_some v e
-change_fits c (Erase n) v f e = none_some v e
-change_fits c (Choose n) v f e = none_some v e
-change_fits c (Start n) v f e = none_some v e
-change_fits c (Write n p q) v f e = none_some v e
-change_fits c (ReadPhase n p) v f e = none_some v e
-change_fits c Restart v f e = restart_fits c v e
-change_fits c ReadParameters v f e = none_some v e
-change_fits c ReadPosition v f e = none_some v e
-change_fits c ReadVersion v f e = none_some v e
-change_fits c ReadFault v f e = none_some v e
+change_fits c o v f e = search (rules, zero_fits, within_fits, restart_fits)
 
 -- RX sets no counter
 asks_sets_none : (c : Option ℕ) (o : Order) (v : ℤ) → asks o ≡ true → (order_change c o).counter ≡ Some v → ⊥
-asks_sets_none c (StartSpeed n) v h e = false≢true h
-asks_sets_none c (PlateauSpeed n) v h e = false≢true h
-asks_sets_none c (Slope n) v h e = false≢true h
-asks_sets_none c (Distance n) v h e = false≢true h
-asks_sets_none c Forward v h e = false≢true h
-asks_sets_none c Back v h e = false≢true h
-asks_sets_none c ZeroCounter v h e = false≢true h
-asks_sets_none c (SetCounter n) v h e = false≢true h
-asks_sets_none c Move v h e = false≢true h
-asks_sets_none c MoveToOrigin v h e = false≢true h
-asks_sets_none c (MoveTo n) v h e = false≢true h
-asks_sets_none c SlowStop v h e = false≢true h
-asks_sets_none c PowerOn v h e = false≢true h
-asks_sets_none c PowerOff v h e = false≢true h
-asks_sets_none c (SetOutputs n) v h e = false≢true h
-asks_sets_none c (Create n p) v h e = false≢true h
-asks_sets_none c (Erase n) v h e = false≢true h
-asks_sets_none c (Choose n) v h e = false≢true h
-asks_sets_none c (Start n) v h e = false≢true h
-asks_sets_none c (Write n p q) v h e = false≢true h
-asks_sets_none c (ReadPhase n p) v h e = false≢true h
-asks_sets_none c Restart v h e = false≢true h
-asks_sets_none c ReadParameters v h e = false≢true h
-asks_sets_none c ReadPosition v h e = false≢true h
-asks_sets_none c ReadVersion v h e = false≢true h
-asks_sets_none c ReadFault v h e = none_some v e
+asks_sets_none c o v h e = search rules
 
 -- a finished line
 module _ (cycle : ℕ) (r : Rest) (k : Kept) where

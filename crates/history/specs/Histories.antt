@@ -1,5 +1,5 @@
 -- A whole history: the module that it begins with, and what its calls answer.
-use Rattle.std.specs.Prelude.{ℕ, Bool, ◌&&◌, List, take, ℤ, None, Ok, Err, Result, ◌==◌, nat_le}
+use Rattle.std.specs.Prelude.{ℕ, Bool, ◌&&◌, List, take, None, Ok, Err, Result, ◌==◌, nat_le}
 use Rattle.faults.specs.declared.Fault.{Fault}
 use Rattle.faults.specs.Faults.{number_of}
 use Rattle.phases.specs.declared.phase.Phase.{Phase}
@@ -7,29 +7,26 @@ use Rattle.outputs.specs.Meaning.{Meaning}
 use Rattle.law.specs.Events.{Answer as Answered}
 use Rattle.law.specs.Events.Answer.{refused, reply, ticked, done}
 use Rattle.law.specs.Machine.{Kept as WithFault, keep}
-use Rattle.module.specs.Machine.{machine}
+use Rattle.law.specs.History.{State}
+use Rattle.law.specs.Law.{new}
+use Rattle.module.specs.Machine.{machine, module_device}
 use Rattle.module.specs.Views.{new_rest, addressed}
 use Rattle.history.specs.declared.answer.Answer.{Answer}
-use Rattle.history.specs.declared.answer.Answer.TheVariants.{Refused, Reply, Ticked, Done}
+use Rattle.history.specs.declared.answer.Answer.TheVariants.{Reply, Ticked, Done}
 
 -- a module made new over an output of this meaning, and set to its address, over these records
 abbrev pub begun : (cycle : ℕ) → ℕ → Meaning → List Phase → WithFault (machine cycle)
 begun cycle address m records = keep (machine cycle) (addressed (new_rest m records) address) None
 
+abbrev pub started : (cycle : ℕ) → ℕ → Meaning → List Phase → State (module_device cycle)
+started cycle address m records = new (module_device cycle) (begun cycle address m records)
+
 -- what the answers of the code mean
-abbrev pub shown : Answer → Answered
-shown (Refused f) = refused (number_of f.cause)
-shown (Reply r) = reply (take r.length r.bytes)
-shown (Ticked step busy) = ticked step busy
-shown Done = done
-
-abbrev pub plain_shown : Result (Unit {0}) Fault → Answered
-plain_shown (Ok x) = done
-plain_shown (Err f) = refused (number_of f.cause)
-
-abbrev pub tick_shown : Result (ℤ × Bool) Fault → Answered
-tick_shown (Ok r) = ticked r.0 r.1
-tick_shown (Err f) = refused (number_of f.cause)
+abbrev pub shown : Result Answer Fault → Answered
+shown (Err f) = refused (number_of f.cause)
+shown (Ok (Reply r)) = reply (take r.length r.bytes)
+shown (Ok (Ticked step busy)) = ticked step busy
+shown (Ok Done) = done
 
 -- the address is at most 63, the memory has 414 records, and there is room for every answer
 abbrev pub acceptable : ℕ → ℕ → ℕ → ℕ → Bool

@@ -1,15 +1,16 @@
 // A whole history of a module, which keeps the law of histories.
-ghost use Rattle.std.specs.Prelude.{◌≡◌, ◌≤◌, true, false, List, map, length, take, drop, MatchResult};
+ghost use Rattle.std.specs.Prelude.{◌≡◌, ◌≤◌, List, map, length, take, drop, is_ok, IfOk, IfErr, OnOk};
 ghost use Rattle.phases.specs.declared.phase.Phase.{Phase as Record};
 ghost use Rattle.law.specs.Events.{event};
 ghost use Rattle.law.specs.History.{after};
-ghost use Rattle.law.specs.Law.{Law, new as newly, all_answers};
+ghost use Rattle.law.specs.Law.{Law, all_answers};
 ghost use Rattle.module.specs.Machine.{module_device};
 ghost use Rattle.module.specs.Views.{state_in};
-ghost use Rattle.history.specs.Histories.{begun, shown, acceptable};
+ghost use Rattle.history.specs.Histories.{begun, started, shown, acceptable};
 
 use crate::answer::Answer;
 use crate::calls::perform;
+use faults::Fault;
 use law::Call;
 use module::Module;
 use outputs::StepOutput;
@@ -24,7 +25,7 @@ fn accepts(address: u8, records: usize, calls: usize, answers: usize) -> bool
 // A module over the output, new but for its address.
 fn begin<O: StepOutput>(output: O, address: u8) -> Module<O>
     requires { address ≤ 63 }
-    ensures { (records : List Record) → state_in O.StepOutput.cycle O.StepOutput.meaning result records ≡ newly (module_device O.StepOutput.cycle) (begun O.StepOutput.cycle address (O.StepOutput.meaning output) records) }
+    ensures { (records : List Record) → state_in O.CYCLE result records ≡ started O.CYCLE address (O.meaning output) records }
 {
     let mut device = Module::new(output);
     let _ = device.set_address(address);
@@ -39,18 +40,21 @@ pub fn history<O: StepOutput>(
     address: u8,
     calls: &[Call],
     memory: &mut [Phase],
-    answers: &mut [Answer],
+    answers: &mut [Result<Answer, Fault>],
 ) -> Result<Module<O>, O>
-    ensures refused { MatchResult result (λ _. acceptable address (length memory.old) (length calls.now) (length answers.old) ≡ true) (λ o. acceptable address (length memory.old) (length calls.now) (length answers.old) ≡ false) }
-    ensures state { MatchResult result (λ m. state_in O.StepOutput.cycle O.StepOutput.meaning m memory.new ≡ after (module_device O.StepOutput.cycle) (newly (module_device O.StepOutput.cycle) (begun O.StepOutput.cycle address (O.StepOutput.meaning output) memory.old)) (map event calls.now)) (λ o. o ≡ output) }
-    ensures answers { MatchResult result (λ _. map shown (take (length calls.now) answers.new) ≡ all_answers (module_device O.StepOutput.cycle) (begun O.StepOutput.cycle address (O.StepOutput.meaning output) memory.old) (map event calls.now)) (λ _. memory.new ≡ memory.old) }
-    ensures beyond { MatchResult result (λ _. drop (length calls.now) answers.new ≡ drop (length calls.now) answers.old) (λ _. answers.new ≡ answers.old) }
-    ensures law { Law (module_device O.StepOutput.cycle) (begun O.StepOutput.cycle address (O.StepOutput.meaning output) memory.old) (map event calls.now) }
+    ensures taken { is_ok result ≡ acceptable address (length memory.old) (length calls.now) (length answers.old) }
+    ensures refused { IfErr result (λ o. (o ≡ output) × (memory.new ≡ memory.old) × (answers.new ≡ answers.old)) }
+
+    ensures state { IfOk result (λ m. state_in O.CYCLE m memory.new ≡ after (module_device O.CYCLE) (started O.CYCLE address (O.meaning output) memory.old) (map event calls.now)) }
+    ensures answers { OnOk result (map shown (take (length calls.now) answers.new) ≡ all_answers (module_device O.CYCLE) (begun O.CYCLE address (O.meaning output) memory.old) (map event calls.now)) }
+    ensures beyond { drop (length calls.now) answers.new ≡ drop (length calls.now) answers.old }
+    ensures law { Law (module_device O.CYCLE) (begun O.CYCLE address (O.meaning output) memory.old) (map event calls.now) }
 {
     if !accepts(address, memory.len(), calls.len(), answers.len()) {
         return Err(output);
     }
     let mut device = begin(output, address);
+    // By index: in a `zip` of the answers' `iter_mut` with the calls, the proof has no name for what the loop wrote.
     for (i, call) in calls.iter().enumerate() {
         answers[i] = perform(&mut device, *call, memory);
     }

@@ -26,11 +26,21 @@ received byte true = letter (byte, true)
 received byte false =
     cond (byte == 0x0d) ending (cond (byte == 0x0a) skipped (letter (byte, false)))
 
+-- how many phase records a call is handed, and what it is where these are 414
+abbrev pub lent_to : Call → ℕ
+lent_to (call.Character byte damaged room lent) = lent
+lent_to (call.Tick lent) = lent
+lent_to (call.Levels value lent) = lent
+lent_to (call.PowerUp lent) = lent
+
+abbrev pub asked : Call → Event
+asked (call.Character byte damaged room lent) = with_room room (received byte damaged)
+asked (call.Tick lent) = tick
+asked (call.Levels value lent) = levels value
+asked (call.PowerUp lent) = power_up
+
 abbrev pub event : Call → Event
-event (call.Character byte damaged room lent) = handed lent (with_room room (received byte damaged))
-event (call.Tick lent) = handed lent tick
-event (call.Levels value lent) = handed lent (levels value)
-event (call.PowerUp lent) = handed lent power_up
+event c = handed (lent_to c) (asked c)
 
 -- What a call answers.
 pub data Answer : Type 0 where

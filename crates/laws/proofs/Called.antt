@@ -1,14 +1,13 @@
 -- Only SS, MR and power-up start a run.
-use Rattle.std.proofs.Common.{◌≡◌, ℕ, Bool, true, false, cond, List, ℤ, is_some, Some, None, Ok, Err, Option, Result, sym, refl, ap, ◌∙◌}
+use Rattle.std.proofs.Common.{◌≡◌, ℕ, Bool, true, false, cond, List, ℤ, is_some, Some, None, Ok, Err, Option, Result, sym, refl, ap, ◌∙◌, rules}
 use Rattle.std.proofs.lemmas.Bool.{false≢true}
 use Rattle.faults.specs.declared.Fault.{Fault}
 use Rattle.lines.specs.declared.line.Addressee.{Addressee}
 use Rattle.lines.specs.Lines.{Kept, addressee_in}
 use Rattle.phases.specs.declared.phase.Phase.{Phase}
 use Rattle.motion.specs.Motions.{Motion, begun, stopped as slow, tick_rest}
-use Rattle.engine.specs.declared.distance.Distance.{Distance as Steps}
+use Rattle.motion.specs.declared.distance.Distance.{Distance as Steps}
 use Rattle.orders.specs.declared.order.Order.{Order}
-use Rattle.orders.specs.declared.order.Order.TheVariants.{StartSpeed, PlateauSpeed, Slope, Distance, Forward, Back, ZeroCounter, SetCounter, Move, MoveToOrigin, MoveTo, SlowStop, PowerOn, PowerOff, SetOutputs, Create, Erase, Choose, Start, Write, ReadPhase, Restart, ReadParameters, ReadPosition, ReadVersion, ReadFault}
 use Rattle.control.specs.States.{State, Doing, resting, moving, running, moves_on}
 use Rattle.control.specs.Ticks.{ticked}
 use Rattle.control.specs.Obeyed.{moves_to, slowed, cut_off, restarted, acted, stored, obeyed}
@@ -46,60 +45,10 @@ restarted_called s None e = e
 restarted_called s (Some n) e = refl
 
 acted_called : (s : State) (counter : ℤ) (o : Order) → runs s.doing ≡ false → runs (acted s counter o).doing ≡ true → calls_order s.chosen o ≡ true
-acted_called s counter (StartSpeed n) h e = never h e
-acted_called s counter (PlateauSpeed n) h e = never h e
-acted_called s counter (Slope n) h e = never h e
-acted_called s counter (Distance n) h e = never h e
-acted_called s counter Forward h e = never h e
-acted_called s counter Back h e = never h e
-acted_called s counter ZeroCounter h e = never h e
-acted_called s counter (SetCounter n) h e = never h e
-acted_called s counter Move h e = never (moves_to_rests s _) e
-acted_called s counter MoveToOrigin h e = never (moves_to_rests s _) e
-acted_called s counter (MoveTo n) h e = never (moves_to_rests s _) e
-acted_called s counter SlowStop h e = never (slowed_rests s s.doing h h) e
-acted_called s counter PowerOn h e = never h e
-acted_called s counter PowerOff h e = never (cut_off_rests s s.doing h) e
-acted_called s counter (SetOutputs n) h e = never h e
-acted_called s counter (Create n p) h e = never h e
-acted_called s counter (Erase n) h e = never h e
-acted_called s counter (Choose n) h e = never h e
-acted_called s counter (Start n) h e = refl
-acted_called s counter (Write n p q) h e = never h e
-acted_called s counter (ReadPhase n p) h e = never h e
-acted_called s counter Restart h e = restarted_called s s.chosen e
-acted_called s counter ReadParameters h e = never h e
-acted_called s counter ReadPosition h e = never h e
-acted_called s counter ReadVersion h e = never h e
-acted_called s counter ReadFault h e = never h e
+acted_called s counter o h e = search (rules, moves_to_rests, slowed_rests, cut_off_rests, restarted_called)
 
 pub stored_doing : (s : State) (m : List Phase) (o : Order) → (stored s m o).doing ≡ s.doing
-stored_doing s m (StartSpeed n) = refl
-stored_doing s m (PlateauSpeed n) = refl
-stored_doing s m (Slope n) = refl
-stored_doing s m (Distance n) = refl
-stored_doing s m Forward = refl
-stored_doing s m Back = refl
-stored_doing s m ZeroCounter = refl
-stored_doing s m (SetCounter n) = refl
-stored_doing s m Move = refl
-stored_doing s m MoveToOrigin = refl
-stored_doing s m (MoveTo n) = refl
-stored_doing s m SlowStop = refl
-stored_doing s m PowerOn = refl
-stored_doing s m PowerOff = refl
-stored_doing s m (SetOutputs n) = refl
-stored_doing s m (Create n p) = refl
-stored_doing s m (Erase n) = refl
-stored_doing s m (Choose n) = refl
-stored_doing s m (Start n) = refl
-stored_doing s m (Write n p q) = refl
-stored_doing s m (ReadPhase n p) = refl
-stored_doing s m Restart = refl
-stored_doing s m ReadParameters = refl
-stored_doing s m ReadPosition = refl
-stored_doing s m ReadVersion = refl
-stored_doing s m ReadFault = refl
+stored_doing s m o = search rules
 
 obeyed_called : (r : Rest) (o : Order) → runs r.control.doing ≡ false → runs (obeyed_rest r o).control.doing ≡ true → calls_order r.control.chosen o ≡ true
 unfolding obeyed_rest obeyed

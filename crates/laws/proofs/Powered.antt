@@ -1,5 +1,5 @@
 -- Every call keeps power on while a movement goes on.
-use Rattle.std.proofs.Common.{◌≡◌, ℕ, Bool, true, false, cond, List, [], ◌∷◌, ℤ, pos, is_some, Some, None, Ok, Err, Option, Result, sym, refl, ap, ◌∙◌, subst}
+use Rattle.std.proofs.Common.{◌≡◌, ℕ, Bool, true, false, cond, List, [], ◌∷◌, ℤ, pos, is_some, Some, None, Ok, Err, Option, Result, sym, refl, ap, ◌∙◌, subst, rules}
 use Rattle.faults.specs.declared.Fault.{Fault}
 use Rattle.senses.specs.declared.Sense.{Sense}
 use Rattle.lines.specs.declared.line.Addressee.{Addressee}
@@ -14,7 +14,6 @@ use Rattle.engine.specs.Progress.{Progress, Activity, entering, moving as phase_
 use Rattle.engine.specs.Ticks.{with_movement, stopped_run}
 use Rattle.engine.specs.Whole.{switched, ActivityPowered, Powered, PowerKept, StepsWithPower}
 use Rattle.orders.specs.declared.order.Order.{Order}
-use Rattle.orders.specs.declared.order.Order.TheVariants.{StartSpeed, PlateauSpeed, Slope, Distance, Forward, Back, ZeroCounter, SetCounter, Move, MoveToOrigin, MoveTo, SlowStop, PowerOn, PowerOff, SetOutputs, Create, Erase, Choose, Start, Write, ReadPhase, Restart, ReadParameters, ReadPosition, ReadVersion, ReadFault}
 use Rattle.control.specs.States.{State, Doing, resting, moving, running, moves_on, runs_on, with_set_outputs}
 use Rattle.control.specs.Ticks.{run_outcome, ticked, tick_effects}
 use Rattle.control.specs.Obeyed.{slowed, cut_off, restarted, acted, obeyed, order_change, restart_change}
@@ -67,32 +66,7 @@ restarted_power s a None = tt
 restarted_power s a (Some n) = tt
 
 acted_power : (s : State) (a : AxisState) (counter : ℤ) (o : Order) → DoingPowered a.power s.doing → DoingPowered (changed (order_change s.chosen o) a).power (acted s counter o).doing
-acted_power s a counter (StartSpeed n) h = h
-acted_power s a counter (PlateauSpeed n) h = h
-acted_power s a counter (Slope n) h = h
-acted_power s a counter (Distance n) h = h
-acted_power s a counter Forward h = h
-acted_power s a counter Back h = h
-acted_power s a counter ZeroCounter h = h
-acted_power s a counter (SetCounter n) h = h
-acted_power s a counter Move h = all_powered (acted s counter Move).doing
-acted_power s a counter MoveToOrigin h = all_powered (acted s counter MoveToOrigin).doing
-acted_power s a counter (MoveTo n) h = all_powered (acted s counter (MoveTo n)).doing
-acted_power s a counter SlowStop h = slowed_power s a.power s.doing h h
-acted_power s a counter PowerOn h = all_powered (acted s counter PowerOn).doing
-acted_power s a counter PowerOff h = cut_off_power s s.doing refl
-acted_power s a counter (SetOutputs n) h = h
-acted_power s a counter (Create n p) h = h
-acted_power s a counter (Erase n) h = h
-acted_power s a counter (Choose n) h = h
-acted_power s a counter (Start n) h = all_powered (acted s counter (Start n)).doing
-acted_power s a counter (Write n p q) h = h
-acted_power s a counter (ReadPhase n p) h = h
-acted_power s a counter Restart h = restarted_power s a s.chosen
-acted_power s a counter ReadParameters h = h
-acted_power s a counter ReadPosition h = h
-acted_power s a counter ReadVersion h = h
-acted_power s a counter ReadFault h = h
+acted_power s a counter o h = search (rules, all_powered, slowed_power, cut_off_power, restarted_power)
 
 obeyed_power : (r : Rest) (o : Order) → HasPower r → HasPower (obeyed_rest r o)
 unfolding obeyed_rest obeyed

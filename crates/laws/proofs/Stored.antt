@@ -17,11 +17,13 @@ lent_whole m h = cond-true (eqb (length m) 414) (Ok tt) (Err wrong_memory) (eq-e
 
 pub tells_what_was_stored : TellsWhatWasStored
 unfolding order_reply phase_reply obeyed_rest obeyed
-tells_what_was_stored cycle r n np p f w e =
+tells_what_was_stored cycle r at p f w e =
+    let n = at.sequence in
+    let np = at.phase in
     let l = lent_whole r.records f.2 in
     let bs = r.control.blocks in
     let m = rewritten (located bs n np) p r.records in
-    let taken : stored_records bs r.records (Write n np p) ≡ m = rw (l, e) in
+    let taken : stored_records bs r.records (Write at p) ≡ m = rw (l, e) in
     let whole : lent m ≡ Ok tt = lent_whole m (length_rewritten (located bs n np) p r.records ∙ f.2) in
     ap (λ x. rs_text r.control.address n np (phase_found (and_then (lent x) (λ _. read_answer (located bs n np) x)))) taken
     ∙ ap (λ x. rs_text r.control.address n np (phase_found (and_then x (λ _. read_answer (located bs n np) m)))) whole

@@ -2,7 +2,7 @@
 use Rattle.std.specs.Prelude.{◌≡◌, ℕ, Bool, true, false, is_some, Some, None, Ok, Err, Option, Result}
 use Rattle.faults.specs.declared.Fault.{Fault}
 use Rattle.orders.specs.declared.order.Order.{Order}
-use Rattle.orders.specs.declared.order.Order.TheVariants.{StartSpeed, PlateauSpeed, Slope, Distance, Forward, Back, ZeroCounter, SetCounter, Move, MoveToOrigin, MoveTo, SlowStop, PowerOn, PowerOff, SetOutputs, Create, Erase, Choose, Start, Write, ReadPhase, Restart, ReadParameters, ReadPosition, ReadVersion, ReadFault}
+use Rattle.orders.specs.declared.order.Order.TheVariants.{Start, Restart}
 use Rattle.control.specs.States.{Doing, resting, moving, running}
 use Rattle.law.specs.Events.{Event}
 use Rattle.law.specs.Events.Event.{stopped, skipped, letter, ending, tick, levels, power_up}
@@ -18,32 +18,9 @@ runs (running r) = true
 
 -- an order that calls a sequence: SS, or MR with a chosen sequence
 abbrev pub calls_order : Option ℕ → Order → Bool
-calls_order chosen (StartSpeed n) = false
-calls_order chosen (PlateauSpeed n) = false
-calls_order chosen (Slope n) = false
-calls_order chosen (Distance n) = false
-calls_order chosen Forward = false
-calls_order chosen Back = false
-calls_order chosen ZeroCounter = false
-calls_order chosen (SetCounter n) = false
-calls_order chosen Move = false
-calls_order chosen MoveToOrigin = false
-calls_order chosen (MoveTo n) = false
-calls_order chosen SlowStop = false
-calls_order chosen PowerOn = false
-calls_order chosen PowerOff = false
-calls_order chosen (SetOutputs n) = false
-calls_order chosen (Create n p) = false
-calls_order chosen (Erase n) = false
-calls_order chosen (Choose n) = false
 calls_order chosen (Start n) = true
-calls_order chosen (Write n p q) = false
-calls_order chosen (ReadPhase n p) = false
 calls_order chosen Restart = is_some chosen
-calls_order chosen ReadParameters = false
-calls_order chosen ReadPosition = false
-calls_order chosen ReadVersion = false
-calls_order chosen ReadFault = false
+calls_order chosen _ = false
 
 abbrev pub calls_line : Option ℕ → Option (Result Order Fault) → Bool
 calls_line chosen None = false

@@ -38,7 +38,7 @@ pub record WorkedExamples : Type 0 where
   pub speed_low : line_on [] (codes "00VN 19") ≡ Some (Err (past_limit 2))
   pub speed_past : line_on [] (codes "00VN 2001") ≡ Some (Err start_past_plateau)
   -- with 400 phases reserved SN 9 14 is accepted, and SN 9 15 gets 5
-  pub created : (bs : List Block) → reserved bs ≡ 400 → absent 9 bs ≡ true → line_on bs (codes "00SN 9 14") ≡ Some (Ok (Create 9 14))
+  pub created : (bs : List Block) → reserved bs ≡ 400 → absent 9 bs ≡ true → line_on bs (codes "00SN 9 14") ≡ Some (Ok (Create (record { number = 9; reserve = 14 })))
   pub full : (bs : List Block) → reserved bs ≡ 400 → absent 9 bs ≡ true → line_on bs (codes "00SN 9 15") ≡ Some (Err memory_full)
   -- from 8,388,606 three steps forward lead to -8,388,607
   pub counter_wraps : (axis_stepped Forward (axis_stepped Forward (axis_stepped Forward (powered_at (pos 8388606))))).counter ≡ negsuc 8388606

@@ -21,5 +21,5 @@ pub fn module_laws()
     ensures power { PowerWhileMoving }
     ensures steps { NoStepRefused }
 {
-    let _ = run_laws();
+    run_laws();
 }

@@ -5,6 +5,7 @@ ghost use Rattle.lines.specs.Characters.{Character, unfinished};
 ghost use Rattle.lines.specs.Lines.{kept, kept_of, ended, going};
 
 use crate::line::Line;
+use std::mem;
 
 const CARRIAGE_RETURN: u8 = 0x0D;
 
@@ -30,22 +31,6 @@ impl Receiver {
         &self.line
     }
 
-    fn step(&mut self, byte: u8, damaged: bool) -> Option<Line>
-        ensures line { option_map kept result ≡ ended (kept self.old.line) (byte, damaged) }
-        ensures rest { kept self.new.line ≡ going (kept self.old.line) (byte, damaged) }
-    {
-        if damaged || byte != CARRIAGE_RETURN && byte != LINE_FEED {
-            self.line.take(byte, damaged);
-            return None;
-        }
-        if byte == LINE_FEED {
-            return None;
-        }
-        let line = self.line;
-        self.line = Line::new();
-        Some(line)
-    }
-
     // Takes a character. An undamaged 0Dh ends the line, which is answered; an undamaged 0Ah is
     // skipped; every other character belongs to the line.
     pub fn receive(&mut self, byte: u8, damaged: bool) -> Option<Line>
@@ -53,6 +38,13 @@ impl Receiver {
         ensures rest { kept self.new.line ≡ going (kept self.old.line) (byte, damaged) }
         ensures list { (cs : List Character) → kept self.old.line ≡ kept_of cs → kept self.new.line ≡ kept_of (unfinished cs (byte, damaged)) }
     {
-        self.step(byte, damaged)
+        match byte {
+            CARRIAGE_RETURN if !damaged => Some(mem::replace(&mut self.line, Line::new())),
+            LINE_FEED if !damaged => None,
+            _ => {
+                self.line.take(byte, damaged);
+                None
+            }
+        }
     }
 }

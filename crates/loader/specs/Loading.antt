@@ -39,25 +39,25 @@ made_at a = cond (nat_le a 63) (Ok (fresh a)) (Err wrong_address)
 
 -- the store's row: what the store answers to an order
 abbrev pub carried : List Block → List Phase → Order → Result Done Fault
-carried bs m (Create n k) = and_then (and_then (lent m) (λ _. create_answer bs n k)) (λ _. Ok done.Stored)
+carried bs m (Create b) = and_then (and_then (lent m) (λ _. create_answer bs b.number b.reserve)) (λ _. Ok done.Stored)
 carried bs m (Erase n) = and_then (and_then (lent m) (λ _. erase_answer n)) (λ _. Ok done.Stored)
-carried bs m (Write n np p) = and_then (and_then (lent m) (λ _. write_answer (located bs n np))) (λ _. Ok done.Stored)
-carried bs m (Read n np) = and_then (and_then (lent m) (λ _. read_answer (located bs n np) m)) (λ p. Ok (done.Found p))
+carried bs m (Write at p) = and_then (and_then (lent m) (λ _. write_answer (located bs at.sequence at.phase))) (λ _. Ok done.Stored)
+carried bs m (Read at) = and_then (and_then (lent m) (λ _. read_answer (located bs at.sequence at.phase) m)) (λ p. Ok (done.Found p))
 carried bs m Other = Ok done.Other
 
 -- the sequences and the records once an order is accepted
 abbrev pub new_blocks : List Block → Order → List Block
-new_blocks bs (Create n k) = appended bs n k
+new_blocks bs (Create b) = appended bs b.number b.reserve
 new_blocks bs (Erase n) = erased_blocks bs n
-new_blocks bs (Write n np p) = bs
-new_blocks bs (Read n np) = bs
+new_blocks bs (Write at p) = bs
+new_blocks bs (Read at) = bs
 new_blocks bs Other = bs
 
 abbrev pub new_records : List Block → List Phase → Order → List Phase
-new_records bs m (Create n k) = blanked (reserved bs) k m
+new_records bs m (Create b) = blanked (reserved bs) b.reserve m
 new_records bs m (Erase n) = erased_records bs n m
-new_records bs m (Write n np p) = rewritten (located bs n np) p m
-new_records bs m (Read n np) = m
+new_records bs m (Write at p) = rewritten (located bs at.sequence at.phase) p m
+new_records bs m (Read at) = m
 new_records bs m Other = m
 
 -- a refused order changes nothing

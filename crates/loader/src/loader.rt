@@ -10,7 +10,7 @@ ghost use Rattle.loader.specs.Loading.{state, state_of, made_at, carried, carrie
 use crate::order::{Done, Order, read_order};
 use faults::Fault;
 use lines::{Line, Receiver};
-use phases::Phase;
+use phases::{Phase, Position};
 use store::Directory;
 
 #[derive(Clone, Copy)]
@@ -20,7 +20,7 @@ pub struct Loader {
     pub directory: Directory,
 }
 
-// What became of a line.
+// What became of a line. Three named ends read plainer than an Option of a Result, which the call would wrap in another Option.
 #[derive(Clone, Copy)]
 pub enum Outcome {
     Stranger,
@@ -43,7 +43,7 @@ impl Loader {
         })
     }
 
-    // Carries an order out on the memory.
+    // Carries an order out on the memory. What stays is a fact of the call, as in `line`.
     fn carry_out(&mut self, memory: &mut [Phase], order: Order) -> Result<Done, Fault>
         ensures answer { result ≡ carried (sequences self.old.directory) memory.old order }
         ensures blocks { sequences self.new.directory ≡ carried_blocks (sequences self.old.directory) memory.old order }
@@ -52,22 +52,19 @@ impl Loader {
         ensures receiver { self.new.receiver ≡ self.old.receiver }
     {
         match order {
-            Order::Create { number, reserve } => {
-                self.directory.create(memory, number, reserve)?;
+            Order::Create(block) => {
+                self.directory.create(memory, block)?;
                 Ok(Done::Stored)
             }
             Order::Erase { number } => {
                 self.directory.erase(memory, number)?;
                 Ok(Done::Stored)
             }
-            Order::Write { number, np, phase } => {
-                self.directory.write(memory, number, np, phase)?;
+            Order::Write { at, phase } => {
+                self.directory.write(memory, at, phase)?;
                 Ok(Done::Stored)
             }
-            Order::Read { number, np } => {
-                let found = self.read(memory, number, np)?;
-                Ok(Done::Found(found))
-            }
+            Order::Read(at) => Ok(Done::Found(self.read(memory, at)?)),
             Order::Other => Ok(Done::Other),
         }
     }
@@ -103,9 +100,9 @@ impl Loader {
     }
 
     // Reads a phase back; none if it is unwritten.
-    pub fn read(&self, memory: &[Phase], number: u8, np: u8) -> Result<Option<Phase>, Fault>
-        ensures { result ≡ and_then (lent memory.now) (λ _. read_answer (located (state self.now).blocks number np) memory.now) }
+    pub fn read(&self, memory: &[Phase], at: Position) -> Result<Option<Phase>, Fault>
+        ensures { result ≡ and_then (lent memory.now) (λ _. read_answer (located (state self.now).blocks at.sequence at.phase) memory.now) }
     {
-        self.directory.read(memory, number, np)
+        self.directory.read(memory, at)
     }
 }

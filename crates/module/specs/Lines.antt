@@ -6,12 +6,13 @@ use Rattle.lines.specs.declared.line.Addressee.{Addressee}
 use Rattle.lines.specs.declared.line.Addressee.TheVariants.{Own, Broadcast, Stranger}
 use Rattle.lines.specs.Lines.{Kept, addressee_in}
 use Rattle.phases.specs.declared.phase.Phase.{Phase}
+use Rattle.phases.specs.declared.phase.Position.{Position}
 use Rattle.phases.specs.Phases.{blank}
 use Rattle.store.specs.Records.{lent, located, read_answer}
 use Rattle.texts.specs.Texts.{rs_text}
 use Rattle.questions.specs.Questions.{parameters_text, position_text, version_text, acknowledged, refused as refused_text}
 use Rattle.orders.specs.declared.order.Order.{Order}
-use Rattle.orders.specs.declared.order.Order.TheVariants.{StartSpeed, PlateauSpeed, Slope, Distance, Forward, Back, ZeroCounter, SetCounter, Move, MoveToOrigin, MoveTo, SlowStop, PowerOn, PowerOff, SetOutputs, Create, Erase, Choose, Start, Write, ReadPhase, Restart, ReadParameters, ReadPosition, ReadVersion, ReadFault}
+use Rattle.orders.specs.declared.order.Order.TheVariants.{ReadPhase, Restart, ReadParameters, ReadPosition, ReadVersion, ReadFault}
 use Rattle.orders.specs.Judged.{judged}
 use Rattle.control.specs.States.{State, situation}
 use Rattle.law.specs.Machine.{Outcome}
@@ -24,11 +25,11 @@ phase_found (Ok (Some p)) = p
 phase_found (Ok None) = blank
 phase_found (Err f) = blank
 
-abbrev pub phase_read : Rest → ℕ → ℕ → Phase
-phase_read r n np = phase_found (and_then (lent r.records) (λ _. read_answer (located r.control.blocks n np) r.records))
+abbrev pub phase_read : Rest → Position → Phase
+phase_read r at = phase_found (and_then (lent r.records) (λ _. read_answer (located r.control.blocks at.sequence at.phase) r.records))
 
-unfoldable pub phase_reply : Rest → ℕ → ℕ → List ℕ
-phase_reply r n np = rs_text r.control.address n np (phase_read r n np)
+unfoldable pub phase_reply : Rest → Position → List ℕ
+phase_reply r at = rs_text r.control.address at.sequence at.phase (phase_read r at)
 
 abbrev pub position_reply : State → ℤ → List ℕ
 position_reply c counter = position_text c.address counter c.levels c.outputs
@@ -38,32 +39,11 @@ parameters_reply c = parameters_text c.address c.settings.values.start_speed c.s
 
 -- the reply to an own line that is accepted: a question's text, else 06h 11h
 unfoldable pub order_reply : ℕ → Rest → Order → List ℕ
-order_reply cycle r (ReadPhase n np) = phase_reply r n np
+order_reply cycle r (ReadPhase at) = phase_reply r at
 order_reply cycle r ReadParameters = parameters_reply r.control
 order_reply cycle r ReadPosition = position_reply r.control r.axis.counter
 order_reply cycle r ReadVersion = version_text r.control.address cycle
-order_reply cycle r (StartSpeed n) = acknowledged
-order_reply cycle r (PlateauSpeed n) = acknowledged
-order_reply cycle r (Slope n) = acknowledged
-order_reply cycle r (Distance n) = acknowledged
-order_reply cycle r Forward = acknowledged
-order_reply cycle r Back = acknowledged
-order_reply cycle r ZeroCounter = acknowledged
-order_reply cycle r (SetCounter n) = acknowledged
-order_reply cycle r Move = acknowledged
-order_reply cycle r MoveToOrigin = acknowledged
-order_reply cycle r (MoveTo n) = acknowledged
-order_reply cycle r SlowStop = acknowledged
-order_reply cycle r PowerOn = acknowledged
-order_reply cycle r PowerOff = acknowledged
-order_reply cycle r (SetOutputs n) = acknowledged
-order_reply cycle r (Create n p) = acknowledged
-order_reply cycle r (Erase n) = acknowledged
-order_reply cycle r (Choose n) = acknowledged
-order_reply cycle r (Start n) = acknowledged
-order_reply cycle r (Write n np p) = acknowledged
-order_reply cycle r Restart = acknowledged
-order_reply cycle r ReadFault = acknowledged
+order_reply cycle r _ = acknowledged
 
 -- only an own line is answered
 abbrev pub answered_to : Addressee → List ℕ → List ℕ
@@ -73,60 +53,13 @@ answered_to Stranger t = []
 
 -- MR clears the fault record, RX tells and clears it
 abbrev pub clears : Order → Bool
-clears (StartSpeed n) = false
-clears (PlateauSpeed n) = false
-clears (Slope n) = false
-clears (Distance n) = false
-clears Forward = false
-clears Back = false
-clears ZeroCounter = false
-clears (SetCounter n) = false
-clears Move = false
-clears MoveToOrigin = false
-clears (MoveTo n) = false
-clears SlowStop = false
-clears PowerOn = false
-clears PowerOff = false
-clears (SetOutputs n) = false
-clears (Create n p) = false
-clears (Erase n) = false
-clears (Choose n) = false
-clears (Start n) = false
-clears (Write n np p) = false
-clears (ReadPhase n np) = false
 clears Restart = true
-clears ReadParameters = false
-clears ReadPosition = false
-clears ReadVersion = false
 clears ReadFault = true
+clears _ = false
 
 abbrev pub asks : Order → Bool
-asks (StartSpeed n) = false
-asks (PlateauSpeed n) = false
-asks (Slope n) = false
-asks (Distance n) = false
-asks Forward = false
-asks Back = false
-asks ZeroCounter = false
-asks (SetCounter n) = false
-asks Move = false
-asks MoveToOrigin = false
-asks (MoveTo n) = false
-asks SlowStop = false
-asks PowerOn = false
-asks PowerOff = false
-asks (SetOutputs n) = false
-asks (Create n p) = false
-asks (Erase n) = false
-asks (Choose n) = false
-asks (Start n) = false
-asks (Write n np p) = false
-asks (ReadPhase n np) = false
-asks Restart = false
-asks ReadParameters = false
-asks ReadPosition = false
-asks ReadVersion = false
 asks ReadFault = true
+asks _ = false
 
 -- an accepted order, and what it answers to the addressee
 abbrev pub order_outcome : ℕ → Rest → Addressee → Order → Outcome Rest (Option Fault)

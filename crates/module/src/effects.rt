@@ -1,61 +1,46 @@
 // The axis moved as orders and ticks say.
 ghost use Rattle.std.specs.Prelude.{◌≡◌};
-ghost use Rattle.axis.specs.Axes.{axis_state};
-ghost use Rattle.module.specs.Rests.{powered, counted, changed, stepped, step_made, affected, step_of};
+ghost use Rattle.module.specs.Rests.{powered, changed, stepped, step_made, affected, step_of};
 
-use axis::Axis;
+use axis::{Axis, signed};
 use control::Change;
 use engine::{Effects, Power};
 use outputs::StepOutput;
 use senses::Sense;
 
 fn switch<O: StepOutput>(axis: &mut Axis<O>, power: Option<Power>)
-    ensures { axis_state O.StepOutput.meaning axis.new ≡ powered power (axis_state O.StepOutput.meaning axis.old) }
+    ensures { axis.new.state ≡ powered power axis.old.state }
 {
-    match power {
-        Some(Power::On) => axis.set_power(true),
-        Some(Power::Off) => axis.set_power(false),
-        None => {}
-    }
-}
-
-fn set<O: StepOutput>(axis: &mut Axis<O>, counter: Option<i32>)
-    ensures { axis_state O.StepOutput.meaning axis.new ≡ counted counter (axis_state O.StepOutput.meaning axis.old) }
-{
-    if let Some(counter) = counter {
-        axis.set_counter(counter);
+    if let Some(power) = power {
+        axis.set_power(matches!(power, Power::On));
     }
 }
 
 // What an order does to the axis.
 pub(crate) fn change<O: StepOutput>(axis: &mut Axis<O>, change: Change)
-    ensures { axis_state O.StepOutput.meaning axis.new ≡ changed change (axis_state O.StepOutput.meaning axis.old) }
+    ensures { axis.new.state ≡ changed change axis.old.state }
 {
-    set(axis, change.counter);
+    if let Some(counter) = change.counter {
+        axis.set_counter(counter);
+    }
     switch(axis, change.power);
 }
 
 // Asks for a step, if one is due, and answers what was made.
 fn step<O: StepOutput>(axis: &mut Axis<O>, due: Option<Sense>) -> i8
-    ensures made { result ≡ step_made due (axis_state O.StepOutput.meaning axis.old) }
-    ensures axis { axis_state O.StepOutput.meaning axis.new ≡ stepped due (axis_state O.StepOutput.meaning axis.old) }
+    ensures made { result ≡ step_made due axis.old.state }
+    ensures axis { axis.new.state ≡ stepped due axis.old.state }
 {
     let Some(sense) = due else {
         return 0;
     };
-    if !axis.step(sense) {
-        return 0;
-    }
-    match sense {
-        Sense::Forward => 1,
-        Sense::Back => -1,
-    }
+    if axis.step(sense) { signed(sense) } else { 0 }
 }
 
 // What a tick does to the axis; answers the step made.
 pub(crate) fn affect<O: StepOutput>(axis: &mut Axis<O>, effects: &Effects) -> i8
-    ensures made { result ≡ step_of effects.now (axis_state O.StepOutput.meaning axis.old) }
-    ensures axis { axis_state O.StepOutput.meaning axis.new ≡ affected effects.now (axis_state O.StepOutput.meaning axis.old) }
+    ensures made { result ≡ step_of effects.now axis.old.state }
+    ensures axis { axis.new.state ≡ affected effects.now axis.old.state }
 {
     switch(axis, effects.power);
     let made = step(axis, effects.step);

@@ -13,9 +13,9 @@ valid m = record {
   below = m.below;
   ramps = m.ramps;
   shortest = m.shortest;
-  least = m.least;
+  least = m.start.least;
   order = m.order;
-  most = m.most;
+  most = m.plateau.most;
 }
 
 pub next_ramp_within : (m : Motion) → m.ramp ≤ m.top → next_ramp m ≤ m.top

@@ -1,4 +1,5 @@
 pub mod Values
+pub mod Distances
 pub mod Motions
 pub mod Ticks
 pub mod Laws

@@ -10,7 +10,7 @@ pub record Values : Type 0 where
   pub slope_time : ℕ
 
 abbrev pub values : Parameters → Values
-values p = record { start_speed = p.start; plateau_speed = p.plateau; slope_time = p.slope }
+values p = record { start_speed = p.start.value; plateau_speed = p.plateau.value; slope_time = p.slope }
 
 abbrev pub values_made : Option Parameters → Option Values
 values_made None = None

@@ -2,8 +2,7 @@
 ghost use Rattle.motion.specs.Laws.{EveryMovementValid, MakesItsSteps, AtLeastStartSpeed, MakesNoMore};
 ghost use Rattle.motion.specs.Laws.{AtMostPlateau, ConstantAtMostStart, BetweenSteps, SlowStopEnds, Examples};
 
-// Its contract states the laws; the answer means nothing.
-pub fn movement_laws() -> u8
+pub fn movement_laws()
     ensures valid { EveryMovementValid }
     ensures makes { MakesItsSteps }
     ensures least { AtLeastStartSpeed }
@@ -13,6 +12,4 @@ pub fn movement_laws() -> u8
     ensures between { BetweenSteps }
     ensures stops { SlowStopEnds }
     ensures examples { Examples }
-{
-    0
-}
+{}

@@ -1,10 +1,12 @@
 // Movements tick by tick: their parameters, one tick, the slow stop, and what holds of whole movements.
 #![tactic(auto)]
 
+mod distance;
 mod laws;
 mod movement;
 mod parameters;
 
+pub use distance::Distance;
 pub use laws::movement_laws;
 pub use movement::Movement;
 pub use parameters::{Parameters, Speed};

@@ -1,6 +1,7 @@
 // A movement that goes on.
 ghost use Rattle.std.specs.Prelude.{◌+◌, ◌^◌, ◌<◌, ◌≤◌};
 
+use crate::parameters::Speed;
 use senses::Sense;
 
 mod starts;
@@ -19,12 +20,11 @@ pub struct Movement {
     // a: each tick adds the speed to it, each step takes 40,000 from it
     accumulated: u32,
     // VN, P and K
-    start: u16,
-    plateau: u16,
+    start: Speed,
+    plateau: Speed,
     top: u32,
-    // NV: at VN throughout
+    // Two flags and no enum: NV (at VN throughout) is set at the start, GE comes later, and the rules ask for each by itself.
     constant: bool,
-    // GE was given
     stopping: bool,
     ghost goes: { 1 ≤ left },
     ghost room: { up + left < 2 ^ 32 },
@@ -32,7 +32,5 @@ pub struct Movement {
     ghost ramps: { ramp ≤ top },
     ghost shortest: { 1 ≤ top },
     ghost longest: { top ≤ 2600000 },
-    ghost least: { 20 ≤ start },
-    ghost order: { start ≤ plateau },
-    ghost most: { plateau ≤ 20000 },
+    ghost order: { start.value ≤ plateau.value },
 }

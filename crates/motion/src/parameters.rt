@@ -14,12 +14,10 @@ pub struct Speed {
 // VN and VX in steps per second, TR in milliseconds.
 #[derive(Clone, Copy)]
 pub struct Parameters {
-    pub(crate) start: u16,
-    pub(crate) plateau: u16,
+    pub(crate) start: Speed,
+    pub(crate) plateau: Speed,
     pub(crate) slope: u16,
-    ghost least: { 20 ≤ start },
-    ghost order: { start ≤ plateau },
-    ghost most: { plateau ≤ 20000 },
+    ghost order: { start.value ≤ plateau.value },
     ghost shortest: { 1 ≤ slope },
     ghost longest: { slope ≤ 65000 },
 }

@@ -1,5 +1,5 @@
 // Movements run tick by tick.
-use crate::{Movement, Parameters};
+use crate::{Distance, Movement, Parameters};
 use senses::Sense;
 use std::test::Fail;
 
@@ -23,7 +23,11 @@ fn first_and_last(mut movement: Option<Movement>) -> (u32, u32) {
 
 #[test]
 fn one_step_of_a_new_module(rt: HostRuntime) {
-    let movement = Movement::new(Parameters::initial(), None, Sense::Forward, 1, false);
+    let distance = Distance {
+        sense: Sense::Forward,
+        steps: 1,
+    };
+    let movement = Movement::new(Parameters::initial(), None, distance, false);
     assert_eq!(rt; first_and_last(movement), (80, 80));
 }
 
@@ -32,14 +36,22 @@ fn two_steps_at_the_highest_speed(rt: HostRuntime) -> Result<(), Fail> {
     let Some(parameters) = Parameters::new(20_000, 20_000, 1000) else {
         return Err(Fail::new("within the limits"));
     };
-    let movement = Movement::new(parameters, None, Sense::Back, 2, false);
+    let distance = Distance {
+        sense: Sense::Back,
+        steps: 2,
+    };
+    let movement = Movement::new(parameters, None, distance, false);
     assert_eq!(rt; first_and_last(movement), (2, 4));
     Ok(())
 }
 
 #[test]
 fn slow_stop_before_the_first_tick(rt: HostRuntime) -> Result<(), Fail> {
-    match Movement::new(Parameters::initial(), None, Sense::Forward, 9, false) {
+    let distance = Distance {
+        sense: Sense::Forward,
+        steps: 9,
+    };
+    match Movement::new(Parameters::initial(), None, distance, false) {
         Some(movement) => {
             assert!(rt; movement.stop().is_none());
             Ok(())

@@ -42,12 +42,12 @@ CounterFits order.SlowStop = Unit {0}
 CounterFits order.PowerOn = Unit {0}
 CounterFits order.PowerOff = Unit {0}
 CounterFits (order.SetOutputs n) = Unit {0}
-CounterFits (order.Create n p) = Unit {0}
+CounterFits (order.Create b) = Unit {0}
 CounterFits (order.Erase n) = Unit {0}
 CounterFits (order.Choose n) = Unit {0}
 CounterFits (order.Start n) = Unit {0}
-CounterFits (order.Write n p q) = Unit {0}
-CounterFits (order.ReadPhase n p) = Unit {0}
+CounterFits (order.Write at p) = Unit {0}
+CounterFits (order.ReadPhase at) = Unit {0}
 CounterFits order.Restart = Unit {0}
 CounterFits order.ReadParameters = Unit {0}
 CounterFits order.ReadPosition = Unit {0}
@@ -87,12 +87,12 @@ values_fit at SlowStop o e = let k : order.SlowStop ≡ o = cc in subst CounterF
 values_fit at PowerOn o e = let k : order.PowerOn ≡ o = cc in subst CounterFits k tt
 values_fit at PowerOff o e = let k : order.PowerOff ≡ o = cc in subst CounterFits k tt
 values_fit at (SetOutputs n) o e = let t = then_ok (outputs n) _ o e in let k : order.SetOutputs t.0 ≡ o = cc t.1.1 in subst CounterFits k tt
-values_fit at (Create n p) o e = let t = then_ok (address_values (record { sequence = n; phase = p })) _ o e in let k : order.Create t.0.0 t.0.1 ≡ o = cc t.1.1 in subst CounterFits k tt
+values_fit at (Create a) o e = let t = then_ok (address_values a) _ o e in let k : order.Create (record { number = t.0.sequence; reserve = t.0.phase }) ≡ o = cc t.1.1 in subst CounterFits k tt
 values_fit at (Erase n) o e = let t = then_ok (erase_value n) _ o e in let k : order.Erase t.0 ≡ o = cc t.1.1 in subst CounterFits k tt
 values_fit at (Choose n) o e = let t = then_ok (sequence n) _ o e in let k : order.Choose t.0 ≡ o = cc t.1.1 in subst CounterFits k tt
 values_fit at (Start n) o e = let t = then_ok (sequence n) _ o e in let k : order.Start t.0 ≡ o = cc t.1.1 in subst CounterFits k tt
-values_fit at (Write n) o e = let t = then_ok (sp_values n) _ o e in let k : order.Write t.0.0 t.0.1 t.0.2 ≡ o = cc t.1.1 in subst CounterFits k tt
-values_fit at (ReadPhase n p) o e = let t = then_ok (address_values (record { sequence = n; phase = p })) _ o e in let k : order.ReadPhase t.0.0 t.0.1 ≡ o = cc t.1.1 in subst CounterFits k tt
+values_fit at (Write n) o e = let t = then_ok (sp_values n) _ o e in let k : order.Write t.0.0 t.0.1 ≡ o = cc t.1.1 in subst CounterFits k tt
+values_fit at (ReadPhase a) o e = let t = then_ok (address_values a) _ o e in let k : order.ReadPhase t.0 ≡ o = cc t.1.1 in subst CounterFits k tt
 values_fit at Restart o e = let k : order.Restart ≡ o = cc in subst CounterFits k tt
 values_fit at ReadParameters o e = let k : order.ReadParameters ≡ o = cc in subst CounterFits k tt
 values_fit at ReadPosition o e = let k : order.ReadPosition ≡ o = cc in subst CounterFits k tt

@@ -6,6 +6,7 @@ use Rattle.lines.specs.declared.line.Addressee.{Addressee}
 use Rattle.lines.specs.declared.line.Addressee.TheVariants.{Own, Broadcast, Stranger}
 use Rattle.lines.specs.Lines.{Kept, addressee_in, text_in}
 use Rattle.words.specs.Words.{words}
+use Rattle.commands.specs.declared.command.Command.{Command}
 use Rattle.commands.specs.Reading.{read_from}
 use Rattle.store.specs.declared.directory.Block.{Block}
 use Rattle.orders.specs.declared.order.Situation.{Situation}
@@ -14,15 +15,20 @@ use Rattle.orders.specs.State.{state_row}
 use Rattle.orders.specs.Values.{values_row}
 use Rattle.orders.specs.Store.{store_row}
 
+-- state, values, store
+abbrev pub by_rows : Situation → List Block → Command → Result Order Fault
+by_rows at bs c =
+    and_then (state_row at.busy c) (λ _.
+    and_then (values_row at c) (λ o.
+    and_then (store_row bs o) (λ _.
+    Ok o)))
+
 -- receiver, reader, state, values, store; the first row that refuses decides
 unfoldable pub ordered : ℕ → Bool → Situation → List Block → Kept → Result Order Fault
 ordered from broadcast at bs k =
     and_then (text_in from k) (λ text.
     and_then (read_from broadcast (words text)) (λ c.
-    and_then (state_row at.busy c) (λ _.
-    and_then (values_row at c) (λ o.
-    and_then (store_row bs o) (λ _.
-    Ok o)))))
+    by_rows at bs c))
 
 -- an own line is read behind its address, a broadcast from its first character, a stranger's line not at all
 abbrev pub judged_to : Addressee → Situation → List Block → Kept → Option (Result Order Fault)

@@ -1,17 +1,17 @@
 -- The row values: the limits of the numbers, the leftmost word first.
-use Rattle.std.specs.Prelude.{ℕ, cond, ◌&&◌, ℤ, pos, negsuc, Ok, Err, Result, int_le, nat_le, nat_lt}
+use Rattle.std.specs.Prelude.{ℕ, cond, ◌&&◌, ℤ, pos, negsuc, Ok, Err, Result, int_le, nat_lt}
 use Rattle.faults.specs.declared.Fault.{Fault}
 use Rattle.faults.specs.Faults.{and_then, past_limit, start_past_plateau}
 use Rattle.commands.specs.declared.command.Command.{Command}
 use Rattle.commands.specs.declared.command.Command.TheVariants.{StartSpeed, PlateauSpeed, Slope, Distance, Forward, Back, ZeroCounter, SetCounter, Move, MoveToOrigin, MoveTo, SlowStop, PowerOn, PowerOff, SetOutputs, Create, Erase, Choose, Start, Write, ReadPhase, Restart, ReadParameters, ReadPosition, ReadVersion, ReadFault}
-use Rattle.values.specs.Values.{address_values, erase_value, sp_values}
+use Rattle.values.specs.Values.{within as number_within, address_values, erase_value, sp_values}
 use Rattle.orders.specs.declared.order.Situation.{Situation}
 use Rattle.orders.specs.declared.order.Order.{Order}
 use Rattle.orders.specs.declared.order.Order.TheVariants as o
 
 -- the number in word 2, from low to high
 abbrev pub within : ℕ → ℕ → ℕ → Result ℕ Fault
-within low high n = cond (nat_le low n && nat_le n high) (Ok n) (Err (past_limit 2))
+within low high n = number_within low high (past_limit 2) n
 
 abbrev pub speed : ℕ → Result ℕ Fault
 speed n = within 20 20000 n
@@ -58,12 +58,12 @@ values_row at SlowStop = Ok o.SlowStop
 values_row at PowerOn = Ok o.PowerOn
 values_row at PowerOff = Ok o.PowerOff
 values_row at (SetOutputs n) = with_value (outputs n) o.SetOutputs
-values_row at (Create n p) = with_value (address_values (record { sequence = n; phase = p })) (λ a. o.Create a.0 a.1)
+values_row at (Create a) = with_value (address_values a) (λ p. o.Create (record { number = p.sequence; reserve = p.phase }))
 values_row at (Erase n) = with_value (erase_value n) o.Erase
 values_row at (Choose n) = with_value (sequence n) o.Choose
 values_row at (Start n) = with_value (sequence n) o.Start
-values_row at (Write p) = with_value (sp_values p) (λ a. o.Write a.0 a.1 a.2)
-values_row at (ReadPhase n p) = with_value (address_values (record { sequence = n; phase = p })) (λ a. o.ReadPhase a.0 a.1)
+values_row at (Write p) = with_value (sp_values p) (λ a. o.Write a.0 a.1)
+values_row at (ReadPhase a) = with_value (address_values a) o.ReadPhase
 values_row at Restart = Ok o.Restart
 values_row at ReadParameters = Ok o.ReadParameters
 values_row at ReadPosition = Ok o.ReadPosition

@@ -1,5 +1,6 @@
 // An order: a command whose values are within their limits.
-use phases::Phase;
+use phases::{Phase, Position};
+use store::Block;
 
 #[derive(Clone, Copy)]
 pub enum Order {
@@ -18,12 +19,12 @@ pub enum Order {
     PowerOn,
     PowerOff,
     SetOutputs(u8),
-    Create { number: u8, reserve: u8 },
+    Create(Block),
     Erase { number: u8 },
     Choose { number: u8 },
     Start { number: u8 },
-    Write { number: u8, np: u8, phase: Phase },
-    ReadPhase { number: u8, np: u8 },
+    Write { at: Position, phase: Phase },
+    ReadPhase(Position),
     Restart,
     ReadParameters,
     ReadPosition,

@@ -2,29 +2,21 @@
 ghost use Rattle.std.specs.Prelude.{◌≡◌};
 ghost use Rattle.store.specs.Directories.{sequences};
 ghost use Rattle.lines.specs.Lines.{kept};
-ghost use Rattle.orders.specs.Judged.{ordered, judged};
+ghost use Rattle.orders.specs.Judged.{by_rows, judged};
 
 use crate::order::{Order, Situation};
 use crate::state_row::check_state;
 use crate::store_row::check_store;
 use crate::values_row::check_values;
-use commands::read_command;
+use commands::{Command, read_line};
 use faults::Fault;
-use lines::{Addressee, Line};
+use lines::Line;
 use store::Directory;
 
-// The order behind the first `from` characters of a line.
-fn order(
-    line: &Line,
-    from: usize,
-    broadcast: bool,
-    at: Situation,
-    directory: &Directory,
-) -> Result<Order, Fault>
-    ensures { result ≡ ordered from broadcast at (sequences directory.now) (kept line.now) }
+// The order of a command, by the rows state, values and store.
+fn order(command: Command, at: Situation, directory: &Directory) -> Result<Order, Fault>
+    ensures { result ≡ by_rows at (sequences directory.now) command }
 {
-    let text = line.text(from)?;
-    let command = read_command(text, broadcast)?;
     check_state(command, at.busy)?;
     let order = check_values(command, at)?;
     check_store(order, directory)?;
@@ -32,12 +24,12 @@ fn order(
 }
 
 // What a finished line comes to: none for a stranger's.
+#[tactic(auto, using(crate::proofs::BehindReader::judged_none))]
 pub fn judge(line: &Line, at: Situation, directory: &Directory) -> Option<Result<Order, Fault>>
     ensures { result ≡ judged at (sequences directory.now) (kept line.now) }
 {
-    match line.addressee(at.address) {
-        Addressee::Own => Some(order(line, 2, false, at, directory)),
-        Addressee::Broadcast => Some(order(line, 0, true, at, directory)),
-        Addressee::Stranger => None,
+    match read_line(line, at.address)? {
+        Ok(command) => Some(order(command, at, directory)),
+        Err(fault) => Some(Err(fault)),
     }
 }

@@ -8,15 +8,18 @@ use faults::Fault;
 fn goes_when_busy(command: Command) -> bool
     ensures { result ≡ when_busy command }
 {
-    match command {
-        Command::SlowStop | Command::PowerOn | Command::PowerOff | Command::SetOutputs(_) => true,
-        Command::Restart
-        | Command::ReadParameters
-        | Command::ReadPosition
-        | Command::ReadVersion
-        | Command::ReadFault => true,
-        _ => false,
-    }
+    matches!(
+        command,
+        Command::SlowStop
+            | Command::PowerOn
+            | Command::PowerOff
+            | Command::SetOutputs(_)
+            | Command::Restart
+            | Command::ReadParameters
+            | Command::ReadPosition
+            | Command::ReadVersion
+            | Command::ReadFault
+    )
 }
 
 pub(crate) fn check_state(command: Command, busy: bool) -> Result<(), Fault>

@@ -10,20 +10,18 @@ use store::Directory;
 fn exists(directory: &Directory, number: u8) -> Result<(), Fault>
     ensures { result ≡ present (sequences directory.now) number }
 {
-    match directory.find(number) {
-        Some(_) => Ok(()),
-        None => Err(Fault::no_sequence()),
-    }
+    directory.find(number).ok_or(Fault::no_sequence())?;
+    Ok(())
 }
 
 pub(crate) fn check_store(order: Order, directory: &Directory) -> Result<(), Fault>
     ensures { result ≡ store_row (sequences directory.now) order }
 {
     match order {
-        Order::Create { number, reserve } => directory.admits(number, reserve),
+        Order::Create(block) => directory.admits(block),
         Order::Choose { number } | Order::Start { number } => exists(directory, number),
-        Order::Write { number, np, .. } | Order::ReadPhase { number, np } => {
-            directory.locate(number, np)?;
+        Order::Write { at, .. } | Order::ReadPhase(at) => {
+            directory.locate(at)?;
             Ok(())
         }
         _ => Ok(()),

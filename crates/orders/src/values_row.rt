@@ -1,30 +1,18 @@
 // The row values: each number within its limits, the leftmost word first.
-ghost use Rattle.std.specs.Prelude.{◌≡◌, ◌≤◌, IfOk};
-ghost use Rattle.orders.specs.Values.{within as within_of, speed as speed_of, start_speed, plateau_speed, slope as slope_of, distance as distance_of, position as position_of, outputs as outputs_of, sequence as sequence_of, values_row};
+ghost use Rattle.std.specs.Prelude.{◌≡◌};
+ghost use Rattle.orders.specs.Values.{speed as speed_of, start_speed, plateau_speed, slope as slope_of, distance as distance_of, position as position_of, outputs as outputs_of, sequence as sequence_of, values_row};
 
 use crate::order::{Order, Situation};
 use commands::Command;
 use faults::Fault;
-use fields::Address;
-use values::{address_values, erase_value, sp_values};
-
-// The number in word 2, from `low` to `high`.
-fn within(n: u64, low: u64, high: u64) -> Result<u64, Fault>
-    ensures value { result ≡ within_of low high n }
-    ensures below { IfOk result (λ m. m ≤ high) }
-{
-    if low <= n && n <= high {
-        Ok(n)
-    } else {
-        Err(Fault::past_limit(2))
-    }
-}
+use phases::Position;
+use store::Block;
+use values::{address_values, erase_value, sp_values, within};
 
 fn speed(n: u64) -> Result<u16, Fault>
     ensures { result ≡ speed_of n }
 {
-    let n = within(n, 20, 20_000)?;
-    Ok(n as u16)
+    within(20, 20_000, Fault::past_limit(2), n)
 }
 
 // The start speed is at most the plateau speed.
@@ -52,18 +40,16 @@ fn plateau_speed(n: u64, start: u16) -> Result<u16, Fault>
 fn slope(n: u64) -> Result<u16, Fault>
     ensures { result ≡ slope_of n }
 {
-    let n = within(n, 1, 65_000)?;
-    Ok(n as u16)
+    within(1, 65_000, Fault::past_limit(2), n)
 }
 
 fn distance(n: u64) -> Result<u32, Fault>
     ensures { result ≡ distance_of n }
 {
-    let n = within(n, 0, 999_998)?;
-    Ok(n as u32)
+    within(0, 999_998, Fault::past_limit(2), n)
 }
 
-// A position that the counter can be set to.
+// A position that the counter can be set to. It has a sign, which no number that `within` tests has. The limits lie within an i32.
 fn position(n: i64) -> Result<i32, Fault>
     ensures { result ≡ position_of n }
 {
@@ -77,15 +63,13 @@ fn position(n: i64) -> Result<i32, Fault>
 fn outputs(n: u64) -> Result<u8, Fault>
     ensures { result ≡ outputs_of n }
 {
-    let n = within(n, 0, 255)?;
-    Ok(n as u8)
+    within(0, 255, Fault::past_limit(2), n)
 }
 
 fn sequence(n: u64) -> Result<u8, Fault>
     ensures { result ≡ sequence_of n }
 {
-    let n = within(n, 1, 99)?;
-    Ok(n as u8)
+    within(1, 99, Fault::past_limit(2), n)
 }
 
 // Holds the numbers of a command against their limits.
@@ -108,9 +92,12 @@ pub(crate) fn check_values(command: Command, at: Situation) -> Result<Order, Fau
         Command::PowerOn => Ok(Order::PowerOn),
         Command::PowerOff => Ok(Order::PowerOff),
         Command::SetOutputs(n) => Ok(Order::SetOutputs(outputs(n)?)),
-        Command::Create(sequence, phase) => {
-            let (number, reserve) = address_values(Address { sequence, phase })?;
-            Ok(Order::Create { number, reserve })
+        Command::Create(address) => {
+            let Position { sequence, phase } = address_values(address)?;
+            Ok(Order::Create(Block {
+                number: sequence,
+                reserve: phase,
+            }))
         }
         Command::Erase(n) => {
             let number = erase_value(n)?;
@@ -125,13 +112,10 @@ pub(crate) fn check_values(command: Command, at: Situation) -> Result<Order, Fau
             Ok(Order::Start { number })
         }
         Command::Write(raw) => {
-            let (number, np, phase) = sp_values(raw)?;
-            Ok(Order::Write { number, np, phase })
+            let (at, phase) = sp_values(raw)?;
+            Ok(Order::Write { at, phase })
         }
-        Command::ReadPhase(sequence, phase) => {
-            let (number, np) = address_values(Address { sequence, phase })?;
-            Ok(Order::ReadPhase { number, np })
-        }
+        Command::ReadPhase(address) => Ok(Order::ReadPhase(address_values(address)?)),
         Command::Restart => Ok(Order::Restart),
         Command::ReadParameters => Ok(Order::ReadParameters),
         Command::ReadPosition => Ok(Order::ReadPosition),

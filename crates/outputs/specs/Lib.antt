@@ -1,5 +1,4 @@
 pub mod Meaning
-pub mod Counter
 pub mod Patterns
 pub mod Coils
 pub mod Pulses

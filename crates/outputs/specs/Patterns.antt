@@ -10,15 +10,21 @@ pattern_of cycle table m = cond m.power (slice_index table (m.place % cycle)) 0
 abbrev pub full_cycle : ℕ
 full_cycle = 4
 
+abbrev pub full_patterns : List ℕ
+full_patterns = 5 ∷ 6 ∷ 10 ∷ 9 ∷ []
+
 abbrev pub full_pattern : Meaning → ℕ
-full_pattern = pattern_of full_cycle (5 ∷ 6 ∷ 10 ∷ 9 ∷ [])
+full_pattern = pattern_of full_cycle full_patterns
 
 -- Half steps: between two full steps one coil is on.
 abbrev pub half_cycle : ℕ
 half_cycle = 8
 
+abbrev pub half_patterns : List ℕ
+half_patterns = 5 ∷ 4 ∷ 6 ∷ 2 ∷ 10 ∷ 8 ∷ 9 ∷ 1 ∷ []
+
 abbrev pub half_pattern : Meaning → ℕ
-half_pattern = pattern_of half_cycle (5 ∷ 4 ∷ 6 ∷ 2 ∷ 10 ∷ 8 ∷ 9 ∷ 1 ∷ [])
+half_pattern = pattern_of half_cycle half_patterns
 
 -- The output k places further forward, with the same power.
 abbrev pub further : ℕ → Meaning → Meaning

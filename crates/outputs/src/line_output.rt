@@ -13,5 +13,5 @@ pub trait LineOutput: StepOutput {
     fn lines(&self) -> u8
         ensures { result ≡ pattern (Self.StepOutput.meaning self.now) };
 
-    ghost repeats: { Repeats Self.StepOutput.cycle pattern };
+    ghost repeats: { Repeats Self.StepOutput.CYCLE pattern };
 }

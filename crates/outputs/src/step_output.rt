@@ -11,15 +11,10 @@ pub trait StepOutput {
     // The number of places after which the output's lines repeat.
     const CYCLE: u32;
 
+    ghost CYCLE: { ℕ };
+
     // The place and the power of an output.
     ghost meaning: { Self → Meaning };
-
-    // The value of `CYCLE`, one for all outputs of a sort.
-    ghost cycle: { ℕ };
-
-    // The value of `CYCLE` for generic code: a clause cannot name the constant of a type parameter.
-    fn places_per_cycle() -> u32
-        ensures { result ≡ cycle };
 
     // One step: accepted with power on, and then the place moves by one; refused with power off, and the place stays.
     fn step(&mut self, sense: Sense) -> bool
@@ -38,5 +33,5 @@ pub trait StepOutput {
 
     ghost bounded: { (o : Self) → (meaning o).place < 2 ^ 24 };
 
-    ghost divides: { 2 ^ 24 % cycle ≡ 0 };
+    ghost divides: { 2 ^ 24 % CYCLE ≡ 0 };
 }

@@ -7,11 +7,12 @@ use Rattle.senses.specs.declared.Sense.{Sense}
 use Rattle.senses.specs.contracts.SensePartialEq.TheImpl as sense_impl
 use Rattle.phases.specs.declared.phase.Phase.{Phase}
 use Rattle.phases.specs.declared.phase.Nature.{Nature}
+use Rattle.phases.specs.declared.phase.Inputs.{Inputs}
 use Rattle.phases.specs.declared.phase.Link.{Link}
 use Rattle.phases.specs.declared.phase.Link.TheVariants as link
 use Rattle.phases.specs.contracts.phase.PhasePartialEq.TheImpl as phase_impl
 use Rattle.phases.specs.contracts.phase.NaturePartialEq.TheImpl as nature_impl
-use Rattle.phases.specs.contracts.phase.LinkPartialEq.TheImpl as link_impl
+use Rattle.phases.specs.contracts.phase.InputsPartialEq.TheImpl as inputs_impl
 
 written_same : (a b : Bool) → beq a b ≡ true → a ≡ b
 written_same a b e = search (rules, e)
@@ -28,22 +29,22 @@ set_point_same a b e = search (rules, e)
 number_same : (a b : ℕ) → nat_eq a b ≡ true → a ≡ b
 number_same a b e = search (rules, e)
 
-link_same : (a b : Link) → link_impl.ghosts.eq a b ≡ true → a ≡ b
-link_same link.None link.None e = refl
-link_same link.None (link.Sequence n) e = cc
-link_same link.None (link.SubSequence n) e = cc
-link_same (link.Sequence n) link.None e = cc
-link_same (link.Sequence n) (link.Sequence m) e = ap link.Sequence (search (rules, e))
-link_same (link.Sequence n) (link.SubSequence m) e = cc
-link_same (link.SubSequence n) link.None e = cc
-link_same (link.SubSequence n) (link.Sequence m) e = cc
-link_same (link.SubSequence n) (link.SubSequence m) e = ap link.SubSequence (search (rules, e))
+inputs_same : (a b : Inputs) → inputs_impl.ghosts.eq a b ≡ true → a ≡ b
+inputs_same a b e = search (rules, e)
 
-option_same : (a b : Option ℕ) → option_eq nat_eq a b ≡ true → a ≡ b
-option_same None None e = refl
-option_same None (Some n) e = cc
-option_same (Some n) None e = cc
-option_same (Some n) (Some m) e = ap Some (search (rules, e))
+-- what the derived `==` of links answers
+module _ (eq : Link ℕ → Link ℕ → Bool) (ss : (n m : ℕ) → eq (link.Sequence n) (link.Sequence m) ≡ nat_eq n m) (sq : (n m : ℕ) → eq (link.Sequence n) (link.SubSequence m) ≡ false) (qs : (n m : ℕ) → eq (link.SubSequence n) (link.Sequence m) ≡ false) (qq : (n m : ℕ) → eq (link.SubSequence n) (link.SubSequence m) ≡ nat_eq n m) where
+  link_same : (a b : Link ℕ) → eq a b ≡ true → a ≡ b
+  link_same (link.Sequence n) (link.Sequence m) e = ap link.Sequence (search (rules, e, ss n m))
+  link_same (link.Sequence n) (link.SubSequence m) e = cc (sq n m)
+  link_same (link.SubSequence n) (link.Sequence m) e = cc (qs n m)
+  link_same (link.SubSequence n) (link.SubSequence m) e = ap link.SubSequence (search (rules, e, qq n m))
+
+option_same : {A : Type 0} (eq : A → A → Bool) → ((x y : A) → eq x y ≡ true → x ≡ y) → (a b : Option A) → option_eq eq a b ≡ true → a ≡ b
+option_same eq h None None e = refl
+option_same eq h None (Some n) e = cc
+option_same eq h (Some n) None e = cc
+option_same eq h (Some n) (Some m) e = ap Some (h n m e)
 
 -- both parts of a test by &&
 both : (a b : Bool) → (a && b) ≡ true → (a ≡ true) × (b ≡ true)
@@ -51,50 +52,49 @@ both true b e = (refl, e)
 both false b e = cc
 
 -- what `==` compares, field by field
-tests : Phase → Phase → Bool
-tests a b =
-    beq a.written b.written
-    && (sense_impl.ghosts.eq a.sense b.sense
-    && (nature_impl.ghosts.eq a.nature b.nature
-    && (int_eq a.set_point b.set_point
-    && (link_impl.ghosts.eq a.link b.link
-    && (nat_eq a.named b.named && (nat_eq a.levels b.levels && (option_eq nat_eq a.next b.next && option_eq nat_eq a.outputs b.outputs)))))))
+module _ (link_eq : Link ℕ → Link ℕ → Bool) where
+  tests : Phase → Phase → Bool
+  tests a b =
+      beq a.written b.written
+      && (sense_impl.ghosts.eq a.sense b.sense
+      && (nature_impl.ghosts.eq a.nature b.nature
+      && (int_eq a.set_point b.set_point
+      && (option_eq link_eq a.link b.link
+      && (inputs_impl.ghosts.eq a.inputs b.inputs && (option_eq nat_eq a.next b.next && option_eq nat_eq a.outputs b.outputs))))))
 
-phase_of : Bool → Sense → Nature → ℤ → Link → ℕ → ℕ → Option ℕ → Option ℕ → Phase
-phase_of written sense nature set_point link named levels next outputs = record {
+phase_of : Bool → Sense → Nature → ℤ → Option (Link ℕ) → Inputs → Option ℕ → Option ℕ → Phase
+phase_of written sense nature set_point link inputs next outputs = record {
   written = written;
   sense = sense;
   nature = nature;
   set_point = set_point;
   link = link;
-  named = named;
-  levels = levels;
+  inputs = inputs;
   next = next;
   outputs = outputs;
 }
 
 -- phases with equal fields are equal
-module _ (a b : Phase) (written : a.written ≡ b.written) (sense : a.sense ≡ b.sense) (nature : a.nature ≡ b.nature) (set_point : a.set_point ≡ b.set_point) (link : a.link ≡ b.link) (named : a.named ≡ b.named) (levels : a.levels ≡ b.levels) (next : a.next ≡ b.next) (outputs : a.outputs ≡ b.outputs) where
-  parts_are : phase_of a.written a.sense a.nature a.set_point a.link a.named a.levels a.next a.outputs ≡ phase_of b.written b.sense b.nature b.set_point b.link b.named b.levels b.next b.outputs
+module _ (a b : Phase) (written : a.written ≡ b.written) (sense : a.sense ≡ b.sense) (nature : a.nature ≡ b.nature) (set_point : a.set_point ≡ b.set_point) (link : a.link ≡ b.link) (inputs : a.inputs ≡ b.inputs) (next : a.next ≡ b.next) (outputs : a.outputs ≡ b.outputs) where
+  parts_are : phase_of a.written a.sense a.nature a.set_point a.link a.inputs a.next a.outputs ≡ phase_of b.written b.sense b.nature b.set_point b.link b.inputs b.next b.outputs
   parts_are = cc
 
   fields_are : a ≡ b
   unfolding phase_of
   fields_are = parts_are
 
-same_tests : (a b : Phase) → tests a b ≡ true → a ≡ b
+same_tests : (f : Link ℕ → Link ℕ → Bool) → ((x y : Link ℕ) → f x y ≡ true → x ≡ y) → (a b : Phase) → tests f a b ≡ true → a ≡ b
 unfolding tests
-same_tests a b e =
+same_tests f h a b e =
     let e1 = both (beq a.written b.written) _ e in
     let e2 = both (sense_impl.ghosts.eq a.sense b.sense) _ e1.1 in
     let e3 = both (nature_impl.ghosts.eq a.nature b.nature) _ e2.1 in
     let e4 = both (int_eq a.set_point b.set_point) _ e3.1 in
-    let e5 = both (link_impl.ghosts.eq a.link b.link) _ e4.1 in
-    let e6 = both (nat_eq a.named b.named) _ e5.1 in
-    let e7 = both (nat_eq a.levels b.levels) _ e6.1 in
-    let e8 = both (option_eq nat_eq a.next b.next) (option_eq nat_eq a.outputs b.outputs) e7.1 in
-    fields_are a b (written_same _ _ e1.0) (sense_same _ _ e2.0) (nature_same _ _ e3.0) (set_point_same _ _ e4.0) (link_same _ _ e5.0) (number_same _ _ e6.0) (number_same _ _ e7.0) (option_same _ _ e8.0) (option_same _ _ e8.1)
+    let e5 = both (option_eq f a.link b.link) _ e4.1 in
+    let e6 = both (inputs_impl.ghosts.eq a.inputs b.inputs) _ e5.1 in
+    let e7 = both (option_eq nat_eq a.next b.next) (option_eq nat_eq a.outputs b.outputs) e6.1 in
+    fields_are a b (written_same _ _ e1.0) (sense_same _ _ e2.0) (nature_same _ _ e3.0) (set_point_same _ _ e4.0) (option_same f h _ _ e5.0) (inputs_same _ _ e6.0) (option_same nat_eq number_same _ _ e7.0) (option_same nat_eq number_same _ _ e7.1)
 
 pub phase_same : (a b : Phase) → phase_impl.ghosts.eq a b ≡ true → a ≡ b
 unfolding tests
-phase_same a b e = same_tests a b e
+phase_same a b e = same_tests _ (link_same _ (λ n m. refl) (λ n m. refl) (λ n m. refl) (λ n m. refl)) a b e

@@ -4,6 +4,7 @@ use Rattle.std.specs.declared.option.Option.TheVariants as option
 use Rattle.senses.specs.declared.Sense.TheVariants.{Forward}
 use Rattle.phases.specs.declared.phase.Nature.{Nature}
 use Rattle.phases.specs.declared.phase.Nature.TheVariants.{Relative, Origin, Absolute, ConstantSpeed, Wait, ZeroCounter, PlateauSpeed, PowerOn, PowerOff}
+use Rattle.phases.specs.declared.phase.Inputs.{Inputs}
 use Rattle.phases.specs.declared.phase.Link.{Link}
 use Rattle.phases.specs.declared.phase.Link.TheVariants as link
 use Rattle.phases.specs.declared.phase.Phase.{Phase}
@@ -26,21 +27,25 @@ SetPointFits PowerOff z = between (pos 0) (pos 0) z
 abbrev pub SequenceNumber : ℕ → Bool
 SequenceNumber n = nat_le 1 n && nat_le n 99
 
-abbrev pub LinkFits : Link → Bool
-LinkFits link.None = true
-LinkFits (link.Sequence n) = SequenceNumber n
-LinkFits (link.SubSequence n) = SequenceNumber n
+-- the number of the linked sequence
+abbrev pub number_of : Link ℕ → ℕ
+number_of (link.Sequence n) = n
+number_of (link.SubSequence n) = n
+
+abbrev pub LinkFits : Option (Link ℕ) → Bool
+LinkFits option.None = true
+LinkFits (option.Some l) = SequenceNumber (number_of l)
 
 abbrev pub NextFits : Option ℕ → Bool
 NextFits option.None = true
 NextFits (option.Some n) = (nat_le 1 n && nat_le n 50) || n == 54
 
 -- only named inputs have a wanted level
-abbrev pub LevelsFit : ℕ → ℕ → Bool
-LevelsFit named levels = bit_and named levels == levels
+abbrev pub LevelsFit : Inputs → Bool
+LevelsFit i = bit_and i.named i.levels == i.levels
 
 abbrev pub InLimits : Phase → Bool
-InLimits p = SetPointFits p.nature p.set_point && (LinkFits p.link && (NextFits p.next && LevelsFit p.named p.levels))
+InLimits p = SetPointFits p.nature p.set_point && (LinkFits p.link && (NextFits p.next && LevelsFit p.inputs))
 
 -- a record with a field beyond its limits counts as unwritten
 abbrev pub Written : Phase → Bool
@@ -52,9 +57,8 @@ blank = record {
   sense = Forward;
   nature = Relative;
   set_point = pos 0;
-  link = link.None;
-  named = 0;
-  levels = 0;
+  link = option.None;
+  inputs = record { named = 0; levels = 0 };
   next = option.None;
   outputs = option.None;
 }

@@ -3,4 +3,4 @@
 
 mod phase;
 
-pub use phase::{Link, Nature, Phase, next_fits};
+pub use phase::{Inputs, Link, Nature, Phase, Position, next_fits};

@@ -1,6 +1,6 @@
 // One phase of a sequence.
 ghost use Rattle.std.specs.Prelude.{◌≡◌};
-ghost use Rattle.phases.specs.Phases.{Written, InLimits, SetPointFits, LinkFits, NextFits, LevelsFit, blank};
+ghost use Rattle.phases.specs.Phases.{Written, InLimits, SetPointFits, SequenceNumber, number_of, NextFits, LevelsFit, blank};
 
 use senses::Sense;
 
@@ -18,28 +18,43 @@ pub enum Nature {
     PowerOff,
 }
 
+// How a phase goes on with another sequence: for good, or as a sub-sequence, which returns.
 #[derive(Clone, Copy, PartialEq, Eq)]
-pub enum Link {
-    None,
-    Sequence(u8),
-    SubSequence(u8),
+pub enum Link<N> {
+    Sequence(N),
+    SubSequence(N),
 }
 
+// The inputs that a phase names, and the levels that it asks of them, one bit for each input.
+#[derive(Clone, Copy, PartialEq, Eq)]
+pub struct Inputs {
+    pub named: u8,
+    pub levels: u8,
+}
+
+// A phase of a sequence, both by number.
+#[derive(Clone, Copy, PartialEq, Eq)]
+pub struct Position {
+    pub sequence: u8,
+    pub phase: u8,
+}
+
+// A record as the caller of the module lends it. The mark `written` stays beside fields that may hold anything: an Option of a
+// record would not let the caller lend an unwritten one that does.
 #[derive(Clone, Copy, PartialEq, Eq)]
 pub struct Phase {
     pub written: bool,
     pub sense: Sense,
     pub nature: Nature,
     pub set_point: i32,
-    pub link: Link,
-    pub named: u8,
-    pub levels: u8,
+    pub link: Option<Link<u8>>,
+    pub inputs: Inputs,
     pub next: Option<u8>,
     pub outputs: Option<u8>,
 }
 
 impl Nature {
-    // Whether the set point lies within the limits of the nature.
+    // Whether the set point lies within the limits of the nature: one row for each, with its limits as the guard.
     pub fn takes(self, set_point: i64) -> bool
         ensures { result ≡ SetPointFits self set_point }
     {
@@ -56,32 +71,35 @@ impl Nature {
     }
 }
 
-impl Link {
+impl Link<u8> {
     fn fits(self) -> bool
-        ensures { result ≡ LinkFits self }
+        ensures { result ≡ SequenceNumber (number_of self) }
     {
-        match self {
-            Link::None => true,
-            Link::Sequence(number) | Link::SubSequence(number) => 1 <= number && number <= 99,
-        }
+        let (Link::Sequence(number) | Link::SubSequence(number)) = self;
+        1 <= number && number <= 99
     }
 }
 
-// Whether a phase can be numbered so, 54 being the stop.
+// Whether a phase can be numbered so, 54 being the stop. A number and no enum: a record that the caller lends may hold any.
 pub fn next_fits(next: Option<u8>) -> bool
     ensures { result ≡ NextFits next }
 {
-    match next {
-        None => true,
-        Some(np) => 1 <= np && np <= 50 || np == 54,
-    }
+    next.is_none_or(|np| 1 <= np && np <= 50 || np == 54)
 }
 
-// Whether only named inputs have a wanted level.
-fn levels_fit(named: u8, levels: u8) -> bool
-    ensures { result ≡ LevelsFit named levels }
-{
-    named & levels == levels
+impl Inputs {
+    // No input is named.
+    pub const NONE: Inputs = Inputs {
+        named: 0,
+        levels: 0,
+    };
+
+    // Whether only named inputs have a wanted level.
+    fn fit(self) -> bool
+        ensures { result ≡ LevelsFit self }
+    {
+        self.named & self.levels == self.levels
+    }
 }
 
 impl Phase {
@@ -90,9 +108,8 @@ impl Phase {
         sense: Sense::Forward,
         nature: Nature::Relative,
         set_point: 0,
-        link: Link::None,
-        named: 0,
-        levels: 0,
+        link: None,
+        inputs: Inputs::NONE,
         next: None,
         outputs: None,
     };
@@ -102,9 +119,9 @@ impl Phase {
         ensures { result ≡ InLimits self.now }
     {
         self.nature.takes(i64::from(self.set_point))
-            && self.link.fits()
+            && self.link.is_none_or(Link::fits)
             && next_fits(self.next)
-            && levels_fit(self.named, self.levels)
+            && self.inputs.fit()
     }
 
     // A record with a field beyond its limits counts as unwritten.

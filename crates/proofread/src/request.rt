@@ -1,4 +1,5 @@
 // What the arguments of the program ask for.
+use programs::is_option;
 use sheet::read_address;
 use std::fmt;
 
@@ -42,19 +43,15 @@ pub(crate) fn read_request(args: &[String]) -> Result<Request<'_>, WrongUse<'_>>
     let mut file = None;
     let mut words = args.iter();
     while let Some(word) = words.next() {
-        let word = word.as_str();
-        if word == "--help" {
-            return Ok(Request::Usage);
-        }
-        if word == "--address" {
-            let text = words.next().ok_or(WrongUse::NoAddress)?.as_str();
-            address = read_address(text.as_bytes()).ok_or(WrongUse::Address(text))?;
-        } else if word != "-" && word.as_bytes().starts_with(b"-") {
-            return Err(WrongUse::Option(word));
-        } else if file.is_some() {
-            return Err(WrongUse::TwoFiles(word));
-        } else {
-            file = Some(word);
+        match word.as_str() {
+            "--help" => return Ok(Request::Usage),
+            "--address" => {
+                let text = words.next().ok_or(WrongUse::NoAddress)?.as_str();
+                address = read_address(text.as_bytes()).ok_or(WrongUse::Address(text))?;
+            }
+            option if is_option(option) => return Err(WrongUse::Option(option)),
+            second if file.is_some() => return Err(WrongUse::TwoFiles(second)),
+            first => file = Some(first),
         }
     }
     let file = file.ok_or(WrongUse::NoFile)?;

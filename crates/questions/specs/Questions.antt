@@ -1,10 +1,10 @@
 -- The texts of the answers: each ends with 0Dh 11h, and begins with the address in two figures where it tells something.
-use Rattle.std.specs.Prelude.{ℕ, cond, List, [], ◌∷◌, ◌++◌, ℤ, pos, negsuc, Some, None, codes, Option, nat_lt, unsigned_abs}
+use Rattle.std.specs.Prelude.{ℕ, cond, List, [], ◌∷◌, ◌++◌, ℤ, Some, None, codes, Option, nat_lt}
 use Rattle.senses.specs.declared.Sense.{Sense}
 use Rattle.senses.specs.declared.Sense.TheVariants.{Forward, Back}
 use Rattle.faults.specs.declared.Fault.{Fault}
 use Rattle.faults.specs.Faults.{number_of}
-use Rattle.replies.specs.Replies.{figures_of, hex_of}
+use Rattle.replies.specs.Replies.{figures_of, signed_of, hex_of}
 
 -- the end of a text, 0Dh 11h
 abbrev pub ending : List ℕ
@@ -14,11 +14,6 @@ ending = 13 ∷ 17 ∷ []
 abbrev pub direction_sign : Sense → ℕ
 direction_sign Forward = 43
 direction_sign Back = 45
-
--- the sign of a counter, + at 0
-abbrev pub counter_sign : ℤ → ℕ
-counter_sign (pos n) = 43
-counter_sign (negsuc n) = 45
 
 -- the two speeds and the slope in five figures each: 00500 02000 01000
 unfoldable pub speeds_words : ℕ → ℕ → ℕ → List ℕ
@@ -35,7 +30,7 @@ parameters_text address start plateau slope distance direction =
 
 -- the counter as a sign and seven figures: +0000000
 unfoldable pub counter_word : ℤ → List ℕ
-counter_word counter = counter_sign counter ∷ figures_of 7 (unsigned_abs counter)
+counter_word counter = signed_of 7 counter
 
 -- 00EP +0000000 00 FF: the address, the counter, the input levels and the outputs in two hexadecimal figures each
 unfoldable pub position_text : ℕ → ℤ → ℕ → ℕ → List ℕ

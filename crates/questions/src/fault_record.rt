@@ -4,7 +4,7 @@ ghost use Rattle.replies.specs.Replies.{Room, Wrote, answered};
 ghost use Rattle.questions.specs.Questions.{figures_in, fault_word, fault_text};
 
 use faults::Fault;
-use replies::Reply;
+use replies::{Reply, check_room};
 
 // The number of decimal figures of a byte.
 fn figures_in(number: u8) -> usize
@@ -35,26 +35,16 @@ fn write_cause(reply: &mut Reply, fault: Option<Fault>)
     }
 }
 
-fn write_fault(reply: &mut Reply, address: u8, fault: Option<Fault>)
-    requires { Room reply.old 10 }
-    ensures wrote { Wrote reply.old reply.new (fault_text address fault) }
-    ensures len { reply.new.len ≤ reply.old.len + 10 }
-{
-    reply.figures(u32::from(address), 2);
-    reply.text(b"EE ");
-    write_cause(reply, fault);
-    reply.text(b"\r\x11");
-}
-
 // Answers with the number of the fault's cause, or N for none.
 pub fn answer_fault(out: &mut [u8], address: u8, fault: Option<Fault>) -> Result<usize, Fault>
     ensures length { IfOk result (λ n. n ≤ 80) }
     ensures answer { (result, out.new) ≡ answered (fault_text address fault) out.old }
 {
-    if out.len() < 80 {
-        return Err(Fault::short_reply());
-    }
-    let mut reply = Reply { out, len: 0 };
-    write_fault(&mut reply, address, fault);
+    check_room(out)?;
+    let mut reply = Reply::new(out);
+    reply.figures(u32::from(address), 2);
+    reply.text(b"EE ");
+    write_cause(&mut reply, fault);
+    reply.text(b"\r\x11");
     Ok(reply.len)
 }

@@ -1,4 +1,5 @@
-// The answers to the questions for parameters, position, version and fault, and the two short answers to an order.
+// The answers to the questions for parameters, position, version and fault, and the two short answers to an order. Each says by
+// itself that it is at most 80 bytes long, since its length is a plain number for the caller.
 #![tactic(auto)]
 
 mod acknowledgements;
@@ -11,6 +12,6 @@ mod version;
 
 pub use acknowledgements::{acknowledge, refuse};
 pub use fault_record::answer_fault;
-pub use parameters::answer_parameters;
+pub use parameters::{Parameters, answer_parameters};
 pub use position::answer_position;
 pub use version::answer_version;

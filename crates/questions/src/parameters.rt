@@ -4,10 +4,21 @@ ghost use Rattle.replies.specs.Replies.{Room, Wrote, answered};
 ghost use Rattle.questions.specs.Questions.{direction_sign, speeds_words, distance_words, parameters_text};
 
 use faults::Fault;
-use replies::Reply;
+use replies::{Reply, check_room};
 use senses::Sense;
 
-// The sign of a direction.
+// What is told of the parameters of a movement: the speeds in steps per second, the slope in milliseconds, the distance in steps
+// and its direction.
+#[derive(Clone, Copy)]
+pub struct Parameters {
+    pub start_speed: u16,
+    pub plateau_speed: u16,
+    pub slope: u16,
+    pub distance: u32,
+    pub direction: Sense,
+}
+
+// The sign of a direction, a letter of this reply alone, so that no `From` would say it plainer.
 fn sign(direction: Sense) -> u8
     ensures { result ≡ direction_sign direction }
 {
@@ -18,75 +29,41 @@ fn sign(direction: Sense) -> u8
 }
 
 // Writes the two speeds and the slope in five figures each.
-fn write_speeds(reply: &mut Reply, start: u16, plateau: u16, slope: u16)
+fn write_speeds(reply: &mut Reply, told: Parameters)
     requires { Room reply.old 17 }
-    ensures wrote { Wrote reply.old reply.new (speeds_words start plateau slope) }
+    ensures wrote { Wrote reply.old reply.new (speeds_words told.start_speed told.plateau_speed told.slope) }
     ensures len { reply.new.len ≡ reply.old.len + 17 }
 {
-    reply.figures(u32::from(start), 5);
+    reply.figures(u32::from(told.start_speed), 5);
     reply.text(b" ");
-    reply.figures(u32::from(plateau), 5);
+    reply.figures(u32::from(told.plateau_speed), 5);
     reply.text(b" ");
-    reply.figures(u32::from(slope), 5);
+    reply.figures(u32::from(told.slope), 5);
 }
 
 // Writes the distance in six figures, and the direction.
-fn write_distance(reply: &mut Reply, distance: u32, direction: Sense)
+fn write_distance(reply: &mut Reply, told: Parameters)
     requires { Room reply.old 8 }
-    ensures wrote { Wrote reply.old reply.new (distance_words distance direction) }
+    ensures wrote { Wrote reply.old reply.new (distance_words told.distance told.direction) }
     ensures len { reply.new.len ≡ reply.old.len + 8 }
 {
-    reply.figures(distance, 6);
+    reply.figures(told.distance, 6);
     reply.text(b" ");
-    reply.put(sign(direction));
-}
-
-fn write_parameters(
-    reply: &mut Reply,
-    address: u8,
-    start_speed: u16,
-    plateau_speed: u16,
-    slope: u16,
-    distance: u32,
-    direction: Sense,
-)
-    requires { Room reply.old 33 }
-    ensures wrote { Wrote reply.old reply.new (parameters_text address start_speed plateau_speed slope distance direction) }
-    ensures len { reply.new.len ≡ reply.old.len + 33 }
-{
-    reply.figures(u32::from(address), 2);
-    reply.text(b"EL ");
-    write_speeds(reply, start_speed, plateau_speed, slope);
-    reply.text(b" ");
-    write_distance(reply, distance, direction);
-    reply.text(b"\r\x11");
+    reply.put(sign(told.direction));
 }
 
 // Answers with the speeds, the slope, the distance and the direction of a movement.
-pub fn answer_parameters(
-    out: &mut [u8],
-    address: u8,
-    start_speed: u16,
-    plateau_speed: u16,
-    slope: u16,
-    distance: u32,
-    direction: Sense,
-) -> Result<usize, Fault>
+pub fn answer_parameters(out: &mut [u8], address: u8, told: Parameters) -> Result<usize, Fault>
     ensures length { IfOk result (λ n. n ≤ 80) }
-    ensures answer { (result, out.new) ≡ answered (parameters_text address start_speed plateau_speed slope distance direction) out.old }
+    ensures answer { (result, out.new) ≡ answered (parameters_text address told.start_speed told.plateau_speed told.slope told.distance told.direction) out.old }
 {
-    if out.len() < 80 {
-        return Err(Fault::short_reply());
-    }
-    let mut reply = Reply { out, len: 0 };
-    write_parameters(
-        &mut reply,
-        address,
-        start_speed,
-        plateau_speed,
-        slope,
-        distance,
-        direction,
-    );
+    check_room(out)?;
+    let mut reply = Reply::new(out);
+    reply.figures(u32::from(address), 2);
+    reply.text(b"EL ");
+    write_speeds(&mut reply, told);
+    reply.text(b" ");
+    write_distance(&mut reply, told);
+    reply.text(b"\r\x11");
     Ok(reply.len)
 }

@@ -1,7 +1,7 @@
 // Examples of each answer.
 use crate::acknowledgements::{acknowledge, refuse};
 use crate::fault_record::answer_fault;
-use crate::parameters::answer_parameters;
+use crate::parameters::{Parameters, answer_parameters};
 use crate::position::answer_position;
 use crate::version::answer_version;
 use faults::Fault;
@@ -23,17 +23,24 @@ fn check_text(
             assert!(rt; out.ends_with(&[1, 1]));
             Ok(())
         }
-        Err(_) => {
-            assert!(rt; false);
-            Ok(())
-        },
+        Err(_) => Err(Fail::new("a buffer of 80 bytes is refused")),
     }
 }
 
 #[test]
 fn texts_of_the_questions(rt: HostRuntime) -> Result<(), Fail> {
     let mut out = [1; 80];
-    let answer = answer_parameters(&mut out, 0, 500, 2_000, 1_000, 0, Sense::Forward);
+    let answer = answer_parameters(
+        &mut out,
+        0,
+        Parameters {
+            start_speed: 500,
+            plateau_speed: 2_000,
+            slope: 1_000,
+            distance: 0,
+            direction: Sense::Forward,
+        },
+    );
     check_text(&rt, &out, answer, b"00EL 00500 02000 01000 000000 +\r\x11")?;
     let answer = answer_position(&mut out, 7, -8_388_608, 0, 255);
     check_text(&rt, &out, answer, b"07EP -8388608 00 FF\r\x11")?;

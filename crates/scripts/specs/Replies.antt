@@ -1,12 +1,10 @@
 -- Replies and script lines as a transcript shows them.
-use Rattle.std.specs.Prelude.{ℕ, ◌+◌, ◌-◌, ◌/◌, ◌%◌, cond, ◌&&◌, List, [], ◌∷◌, ◌++◌, length, ◌==◌, nat_le, nat_lt}
-
-abbrev pub hex_letter : ℕ → ℕ
-hex_letter n = cond (nat_lt n 10) (48 + n) (65 + (n - 10))
+use Rattle.std.specs.Prelude.{ℕ, cond, ◌&&◌, List, [], ◌∷◌, ◌++◌, length, ◌==◌, nat_le}
+use Rattle.replies.specs.Replies.{hex_of}
 
 -- a printable character as it is, any other byte as \xHH
 abbrev pub escaped_of : ℕ → List ℕ
-escaped_of b = cond (nat_le 32 b && nat_le b 126) (b ∷ []) (92 ∷ (120 ∷ (hex_letter (b / 16) ∷ (hex_letter (b % 16) ∷ []))))
+escaped_of b = cond (nat_le 32 b && nat_le b 126) (b ∷ []) (92 ∷ (120 ∷ hex_of b))
 
 abbrev pub escaped_all : List ℕ → List ℕ
 escaped_all [] = []

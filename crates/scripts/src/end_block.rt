@@ -1,25 +1,13 @@
 // The end block of a transcript: what a module is.
 use crate::fault_text::FaultText;
+use crate::scene::ROOM;
 use crate::snapshot::{Shown, Snapshot};
-use crate::transcript::{Transcript, flag};
-use phases::Phase;
+use crate::transcript::Transcript;
+use phases::{Phase, Position};
 use senses::Sense;
 use std::alloc::AllocError;
-use store::Directory;
+use store::Block;
 use texts::answer_rs;
-
-// The numbers of the sequences in order of creation, and 0 in the places that are free.
-fn numbers(directory: &Directory) -> [u8; 99] {
-    let mut numbers = [0u8; 99];
-    for number in 1..100 {
-        if let Some(span) = directory.find(number) {
-            if span.index < 99 {
-                numbers[span.index] = number;
-            }
-        }
-    }
-    numbers
-}
 
 impl Transcript {
     // The end block of a module over its memory.
@@ -37,7 +25,7 @@ impl Transcript {
         let power = if now.power { "on" } else { "off" };
         let outputs = now.control.outputs;
         let levels = now.control.levels;
-        let busy = flag(now.control.busy());
+        let busy = u8::from(now.control.busy());
         let fault = FaultText(now.fault);
         let line = format!(in self.heap;
             "end: counter {sign}{counter} place {place} power {power} outputs {outputs:02X} levels {levels:02X} busy {busy} fault {fault}\n"
@@ -76,36 +64,38 @@ impl Transcript {
 
     // The sequences in order of creation.
     fn sequences(&mut self, now: &Snapshot, memory: &[Phase]) -> Result<(), AllocError> {
-        let directory = now.control.directory;
-        for number in numbers(&directory) {
-            if let Some(span) = directory.find(number) {
-                let reserve = span.reserve;
-                let line = format!(in self.heap; "sequence {number} reserve {reserve}\n")?;
-                self.add(line.as_bytes())?;
-                self.phases(now, memory, number)?;
-            }
+        for block in now.control.directory.blocks() {
+            let Block { number, reserve } = *block;
+            let line = format!(in self.heap; "sequence {number} reserve {reserve}\n")?;
+            self.add(line.as_bytes())?;
+            self.phases(now, memory, *block)?;
         }
         Ok(())
     }
 
     // The written records of a sequence.
-    fn phases(&mut self, now: &Snapshot, memory: &[Phase], number: u8) -> Result<(), AllocError> {
-        for np in 1..51 {
-            if let Ok(Some(phase)) = now.control.directory.read(memory, number, np) {
-                self.phase(now.control.address, number, np, &phase)?;
+    fn phases(&mut self, now: &Snapshot, memory: &[Phase], block: Block) -> Result<(), AllocError> {
+        // The number of a phase is what is read, and no index.
+        for phase in 1..=block.reserve {
+            let at = Position {
+                sequence: block.number,
+                phase,
+            };
+            if let Ok(Some(record)) = now.control.directory.read(memory, at) {
+                self.phase(now.control.address, at, &record)?;
             }
         }
         Ok(())
     }
 
     // The text that a record is read back by, without its end.
-    fn phase(&mut self, address: u8, number: u8, np: u8, phase: &Phase) -> Result<(), AllocError> {
-        let mut reply = [0u8; 80];
-        let Ok(length) = answer_rs(phase, &mut reply, address, number, np) else {
+    fn phase(&mut self, address: u8, at: Position, record: &Phase) -> Result<(), AllocError> {
+        let mut reply = [0u8; ROOM];
+        let Ok(length) = answer_rs(record, &mut reply, address, at) else {
             return Ok(());
         };
         self.add(b"  ")?;
-        self.add(&reply[0..length.saturating_sub(2)])?;
+        self.add(&reply[..length.saturating_sub(2)])?;
         self.add(b"\n")
     }
 

@@ -11,10 +11,8 @@ impl fmt::Display for FaultText {
             return write!(f, "none");
         };
         let number = fault.cause.number();
-        let word = fault.word;
-        match std::str::from_utf8(fault.place.name()) {
-            Ok(place) => write!(f, "{number} {place} {word}"),
-            Err(_) => Err(fmt::Error),
-        }
+        let place = fault.place;
+        let word = fault.word.unwrap_or(0);
+        write!(f, "{number} {place} {word}")
     }
 }

@@ -6,10 +6,9 @@ ghost use Rattle.scripts.specs.Numbers.{figure_of, decimal_of, hex_figure_of, he
 fn figure(c: u8) -> Option<u8>
     ensures { result ≡ figure_of c }
 {
-    if c >= b'0' && c <= b'9' {
-        Some(c - b'0')
-    } else {
-        None
+    match c {
+        b'0'..=b'9' => Some(c - b'0'),
+        _ => None,
     }
 }
 
@@ -22,10 +21,8 @@ pub fn read_decimal(text: &[u8]) -> Option<u64>
     }
     let mut value: u64 = 0;
     for c in text {
-        let Some(n) = figure(*c) else {
-            return None;
-        };
-        value = value.saturating_mul(10).saturating_add(n as u64);
+        let n = figure(*c)?;
+        value = value.saturating_mul(10).saturating_add(u64::from(n));
     }
     Some(value)
 }
@@ -34,14 +31,11 @@ pub fn read_decimal(text: &[u8]) -> Option<u64>
 fn hex_figure(c: u8) -> Option<u8>
     ensures { result ≡ hex_figure_of c }
 {
-    if c >= b'0' && c <= b'9' {
-        Some(c - b'0')
-    } else if c >= b'A' && c <= b'F' {
-        Some(c - b'A' + 10)
-    } else if c >= b'a' && c <= b'f' {
-        Some(c - b'a' + 10)
-    } else {
-        None
+    match c {
+        b'0'..=b'9' => Some(c - b'0'),
+        b'A'..=b'F' => Some(c - b'A' + 10),
+        b'a'..=b'f' => Some(c - b'a' + 10),
+        _ => None,
     }
 }
 
@@ -49,10 +43,10 @@ fn hex_figure(c: u8) -> Option<u8>
 pub fn read_hexadecimal(text: &[u8]) -> Option<u8>
     ensures { result ≡ hexadecimal_of text.now }
 {
-    if text.len() != 2 {
+    let [high, low] = text else {
         return None;
-    }
-    let high = hex_figure(text[0])?;
-    let low = hex_figure(text[1])?;
+    };
+    let high = hex_figure(*high)?;
+    let low = hex_figure(*low)?;
     Some(16 * high + low)
 }

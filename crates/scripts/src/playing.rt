@@ -1,6 +1,7 @@
 // Histories of modules over each step output.
 use crate::snapshot::{ShownOutput, Snapshot};
 use crate::step::Output;
+use faults::Fault;
 use history::{Answer, Call, history};
 use outputs::{FullStepCoils, HalfStepCoils, PulseOutput};
 use phases::Phase;
@@ -11,12 +12,10 @@ fn play_on<O: ShownOutput + Drop>(
     address: u8,
     calls: &[Call],
     memory: &mut [Phase],
-    answers: &mut [Answer],
+    answers: &mut [Result<Answer, Fault>],
 ) -> Option<Snapshot> {
-    match history(output, address, calls, memory, answers) {
-        Ok(module) => Some(Snapshot::of(&module)),
-        Err(_) => None,
-    }
+    let module = history(output, address, calls, memory, answers).ok()?;
+    Some(Snapshot::from(&module))
 }
 
 // Plays a history, and answers what the module is then; none where the history is refused.
@@ -25,7 +24,7 @@ pub(crate) fn play(
     address: u8,
     calls: &[Call],
     memory: &mut [Phase],
-    answers: &mut [Answer],
+    answers: &mut [Result<Answer, Fault>],
 ) -> Option<Snapshot> {
     match output {
         Output::Full => play_on(FullStepCoils::new(), address, calls, memory, answers),

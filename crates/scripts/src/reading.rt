@@ -1,43 +1,25 @@
 // A line of a script, read.
-ghost use Rattle.std.specs.Prelude.{◌≡◌, true, ◌||◌, Ok};
-ghost use Rattle.scripts.specs.declared.step.Step.TheVariants.{Nothing};
+ghost use Rattle.std.specs.Prelude.{◌≡◌, true, ◌||◌, Ok, None};
 ghost use Rattle.scripts.specs.PassedOver.{blank, comment};
 
 use crate::expected::{Expected, MOST_CALLS};
 use crate::numbers::{read_decimal, read_hexadecimal};
+use crate::scene::{RECORDS, ROOM};
 use crate::step::{Output, Step};
 use history::Call;
-
-const RECORDS: usize = 414;
-
-const ROOM: usize = 80;
-
-// The words before and behind the first blank; none behind it where there is no blank.
-fn cut(text: &[u8]) -> (&[u8], Option<&[u8]>) {
-    for i in 0..text.len() {
-        if text[i] == b' ' {
-            return (&text[0..i], Some(&text[i + 1..text.len()]));
-        }
-    }
-    (text, None)
-}
+use words::cut;
 
 // Nothing but blanks.
 fn is_blank(line: &[u8]) -> bool
     ensures { result ≡ blank line.now }
 {
-    for c in line {
-        if *c != b' ' {
-            return false;
-        }
-    }
-    true
+    line.iter().all(|c| *c == b' ')
 }
 
 fn is_comment(line: &[u8]) -> bool
     ensures { result ≡ comment line.now }
 {
-    !line.is_empty() && line[0] == b'#'
+    line.first() == Some(&b'#')
 }
 
 // A character call with this room, from HH or HH damaged.
@@ -46,7 +28,7 @@ fn read_character(text: &[u8], room: usize, lent: usize) -> Option<Call> {
     let byte = read_hexadecimal(figures)?;
     let damaged = match more {
         None => false,
-        Some(word) if word == b"damaged".as_slice() => true,
+        Some(b"damaged") => true,
         Some(_) => return None,
     };
     Some(Call::Character {
@@ -62,33 +44,30 @@ fn read_levels(text: &[u8], lent: usize) -> Option<Call> {
     Some(Call::Levels { value, lent })
 }
 
-// A number of bytes or records; what passes 1000 counts as that.
+// A number of bytes or records; what passes 1000 counts as that, so that the cast loses nothing.
 fn read_size(text: &[u8]) -> Option<usize> {
     Some(read_decimal(text)?.min(1000) as usize)
 }
 
-// The output and the address of a module; an address above 255 counts as that.
+// The output and the address of a module; an address above 255 counts as that, so that the cast loses nothing.
 fn read_module(text: &[u8]) -> Option<Step<'_>> {
     let (name, address) = cut(text);
-    let output = if name == b"full".as_slice() {
-        Output::Full
-    } else if name == b"half".as_slice() {
-        Output::Half
-    } else if name == b"pulse".as_slice() {
-        Output::Pulse
-    } else {
-        return None;
+    let output = match name {
+        b"full" => Output::Full,
+        b"half" => Output::Half,
+        b"pulse" => Output::Pulse,
+        _ => return None,
     };
     let address = read_decimal(address?)?.min(255) as u8;
     Some(Step::Module { output, address })
 }
 
 fn read_ticks(text: &[u8]) -> Option<Step<'_>> {
-    let count = read_decimal(text)?;
-    if count > MOST_CALLS as u64 {
+    let count = usize::try_from(read_decimal(text)?).ok()?;
+    if count > MOST_CALLS {
         return None;
     }
-    Some(Step::Ticks(count as usize))
+    Some(Step::Ticks(count))
 }
 
 fn read_room(text: &[u8]) -> Option<Call> {
@@ -104,98 +83,62 @@ fn lent_of(size: usize) -> usize {
 fn read_lent(text: &[u8]) -> Option<Call> {
     let (size, text) = cut(text);
     let lent = lent_of(read_size(size)?);
-    let (name, more) = cut(text?);
-    match more {
-        None if name == b"tick".as_slice() => Some(Call::Tick { lent }),
-        None if name == b"power-up".as_slice() => Some(Call::PowerUp { lent }),
-        Some(text) if name == b"levels".as_slice() => read_levels(text, lent),
-        Some(text) if name == b"byte".as_slice() => read_character(text, ROOM, lent),
+    match cut(text?) {
+        (b"tick", None) => Some(Call::Tick { lent }),
+        (b"power-up", None) => Some(Call::PowerUp { lent }),
+        (b"levels", Some(text)) => read_levels(text, lent),
+        (b"byte", Some(text)) => read_character(text, ROOM, lent),
         _ => None,
     }
 }
 
-// A line of one word, `text` being empty.
-fn read_bare<'a>(name: &[u8], text: &'a [u8]) -> Result<Step<'a>, Expected> {
-    if name == b"send".as_slice() {
-        Ok(Step::Send(text))
-    } else if name == b"type".as_slice() {
-        Ok(Step::Type(text))
-    } else if name == b"power-up".as_slice() {
-        Ok(Step::Once(Call::PowerUp { lent: RECORDS }))
-    } else if name == b"fault".as_slice() {
-        Ok(Step::Fault)
-    } else if name == b"state".as_slice() {
-        Ok(Step::State)
-    } else {
-        Err(wanted(name))
+// A line that makes one call, or what its first word wants behind it.
+fn read_call(name: &[u8], text: Option<&[u8]>) -> Result<Call, Expected> {
+    let (call, wanted) = match name {
+        b"byte" => (
+            text.and_then(|text| read_character(text, ROOM, RECORDS)),
+            Expected::Byte,
+        ),
+        b"levels" => (
+            text.and_then(|text| read_levels(text, RECORDS)),
+            Expected::Levels,
+        ),
+        b"room" => (text.and_then(read_room), Expected::Room),
+        b"lent" => (text.and_then(read_lent), Expected::Lent),
+        _ => (None, Expected::Order),
+    };
+    call.ok_or(wanted)
+}
+
+// A line of one word alone.
+fn read_alone<'a>(step: Step<'a>, text: Option<&[u8]>) -> Result<Step<'a>, Expected> {
+    match text {
+        None => Ok(step),
+        Some(_) => Err(Expected::Alone),
     }
 }
 
-// What should follow the first word of a line.
-fn wanted(name: &[u8]) -> Expected {
-    if name == b"module".as_slice() {
-        Expected::Module
-    } else if name == b"byte".as_slice() {
-        Expected::Byte
-    } else if name == b"tick".as_slice() {
-        Expected::Ticks
-    } else if name == b"levels".as_slice() {
-        Expected::Levels
-    } else if name == b"room".as_slice() {
-        Expected::Room
-    } else if name == b"lent".as_slice() {
-        Expected::Lent
-    } else if name == b"fault".as_slice()
-        || name == b"state".as_slice()
-        || name == b"power-up".as_slice()
-    {
-        Expected::Alone
-    } else {
-        Expected::Order
+// What a line of words asks for.
+fn read_words(line: &[u8]) -> Result<Step<'_>, Expected> {
+    let (name, text) = cut(line);
+    match name {
+        b"send" => Ok(Step::Send(text.unwrap_or(&[]))),
+        b"type" => Ok(Step::Type(text.unwrap_or(&[]))),
+        b"module" => text.and_then(read_module).ok_or(Expected::Module),
+        b"tick" => text.and_then(read_ticks).ok_or(Expected::Ticks),
+        b"power-up" => read_alone(Step::Once(Call::PowerUp { lent: RECORDS }), text),
+        b"fault" => read_alone(Step::Fault, text),
+        b"state" => read_alone(Step::State, text),
+        _ => Ok(Step::Once(read_call(name, text)?)),
     }
 }
 
-fn read_call(name: &[u8], text: &[u8]) -> Option<Call> {
-    if name == b"byte".as_slice() {
-        read_character(text, ROOM, RECORDS)
-    } else if name == b"levels".as_slice() {
-        read_levels(text, RECORDS)
-    } else if name == b"room".as_slice() {
-        read_room(text)
-    } else if name == b"lent".as_slice() {
-        read_lent(text)
-    } else {
-        None
-    }
-}
-
-// A line of more than one word.
-fn read_longer<'a>(name: &[u8], text: &'a [u8]) -> Option<Step<'a>> {
-    if name == b"send".as_slice() {
-        Some(Step::Send(text))
-    } else if name == b"type".as_slice() {
-        Some(Step::Type(text))
-    } else if name == b"module".as_slice() {
-        read_module(text)
-    } else if name == b"tick".as_slice() {
-        read_ticks(text)
-    } else {
-        Some(Step::Once(read_call(name, text)?))
-    }
-}
-
-// What a line asks for, or what was expected in its place.
-pub fn read_line(line: &[u8]) -> Result<Step<'_>, Expected>
-    ensures { comment line.now || blank line.now ≡ true → result ≡ Ok Nothing }
+// What a line asks for, and nothing if it is passed over; or what was expected in its place.
+pub fn read_line(line: &[u8]) -> Result<Option<Step<'_>>, Expected>
+    ensures { comment line.now || blank line.now ≡ true → result ≡ Ok None }
 {
     if is_comment(line) || is_blank(line) {
-        return Ok(Step::Nothing);
+        return Ok(None);
     }
-    match cut(line) {
-        (name, None) => read_bare(name, &line[0..0]),
-        (name, Some(text)) => match read_longer(name, text) {
-            Some(step) => Ok(step),
-            None => Err(wanted(name)),
-        },
-    }
+    Ok(Some(read_words(line)?))
 }

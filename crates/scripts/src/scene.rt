@@ -3,13 +3,16 @@ use crate::expected::MOST_CALLS;
 use crate::playing::play;
 use crate::snapshot::Snapshot;
 use crate::step::Output;
+use faults::Fault;
 use history::{Answer, Call};
 use phases::Phase;
 use std::alloc::{AllocError, Global};
 
-const RECORDS: usize = 414;
+// The records of a phase memory.
+pub(crate) const RECORDS: usize = 414;
 
-const ROOM: usize = 80;
+// The bytes of a reply buffer.
+pub(crate) const ROOM: usize = 80;
 
 const LINE_END: u8 = 0x0D;
 
@@ -30,6 +33,7 @@ pub(crate) struct Entry<'a> {
     pub reached: usize,
 }
 
+// The calls of all lines are one list, since a history plays one; an entry says how far it has come.
 #[derive(Drop)]
 pub(crate) struct Scene<'a> {
     pub heap: Global,
@@ -94,10 +98,8 @@ impl<'a> Scene<'a> {
     }
 
     pub(crate) fn tick(&mut self, count: usize) -> Result<(), AllocError> {
-        for _ in 0..count {
-            self.once(Call::Tick { lent: RECORDS })?;
-        }
-        Ok(())
+        let reached = self.calls.len().saturating_add(count);
+        self.calls.resize(reached, Call::Tick { lent: RECORDS })
     }
 
     // Plays the first `count` calls on a new module over this memory.
@@ -105,9 +107,9 @@ impl<'a> Scene<'a> {
         &self,
         count: usize,
         memory: &mut [Phase],
-        answers: &mut [Answer],
+        answers: &mut [Result<Answer, Fault>],
     ) -> Option<Snapshot> {
-        let calls = self.calls.as_slice().get(0..count)?;
+        let calls = self.calls.as_slice().get(..count)?;
         play(self.output, self.address, calls, memory, answers)
     }
 }

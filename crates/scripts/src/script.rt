@@ -18,6 +18,25 @@ struct Script<'a> {
     scene: Option<Scene<'a>>,
 }
 
+// Why a line is not taken.
+#[derive(Clone, Copy)]
+enum Stop {
+    Expected(Expected),
+    NoMemory,
+}
+
+impl From<Expected> for Stop {
+    fn from(expected: Expected) -> Stop {
+        Stop::Expected(expected)
+    }
+}
+
+impl From<AllocError> for Stop {
+    fn from(_: AllocError) -> Stop {
+        Stop::NoMemory
+    }
+}
+
 // How many calls a step makes.
 fn calls_of(step: &Step<'_>) -> usize {
     match step {
@@ -74,72 +93,44 @@ impl<'a> Script<'a> {
         Ok(())
     }
 
-    // Why the module cannot take a step, if it cannot.
-    fn hindrance(&self, step: &Step<'_>) -> Option<Expected> {
-        let Some(scene) = &self.scene else {
-            return Some(Expected::FirstModule);
+    // Takes a line that moves the module.
+    fn gather(&mut self, line: &'a [u8], step: Step<'a>) -> Result<(), Stop> {
+        let Some(scene) = &mut self.scene else {
+            return Err(Stop::Expected(Expected::FirstModule));
         };
-        if scene.has_room(calls_of(step)) {
-            None
-        } else {
-            Some(Expected::FewerCalls)
+        if !scene.has_room(calls_of(&step)) {
+            return Err(Stop::Expected(Expected::FewerCalls));
         }
+        gather(scene, line, step)?;
+        Ok(())
     }
 
-    // Takes a line; answers what was expected where it cannot be taken.
-    fn take(
-        &mut self,
-        line: &'a [u8],
-        transcript: &mut Transcript,
-    ) -> Result<Option<Expected>, AllocError> {
-        let step = match read_line(line) {
-            Ok(step) => step,
-            Err(expected) => return Ok(Some(expected)),
-        };
-        match step {
-            Step::Nothing => return Ok(None),
-            Step::Module { output, address } => {
+    // Takes a line.
+    fn take(&mut self, line: &'a [u8], transcript: &mut Transcript) -> Result<(), Stop> {
+        match read_line(line)? {
+            None => Ok(()),
+            Some(Step::Module { output, address }) => {
                 self.begin(line, output, address, transcript)?;
-                return Ok(None);
+                Ok(())
             }
-            _ => {}
-        }
-        if let Some(expected) = self.hindrance(&step) {
-            return Ok(Some(expected));
-        }
-        if let Some(scene) = &mut self.scene {
-            gather(scene, line, step)?;
-        }
-        Ok(None)
-    }
-}
-
-// The first line of a text and what follows it, and nothing for an empty text.
-fn cut_line(text: &[u8]) -> Option<(&[u8], &[u8])> {
-    if text.is_empty() {
-        return None;
-    }
-    for i in 0..text.len() {
-        if text[i] == b'\n' {
-            return Some((&text[0..i], &text[i + 1..text.len()]));
+            Some(step) => self.gather(line, step),
         }
     }
-    Some((text, &text[0..0]))
 }
 
 // Plays a script and adds its transcript. A line that is not understood ends it; what came before is in the transcript.
 pub fn transcribe(heap: Global, text: &[u8], transcript: &mut Transcript) -> Result<(), Trouble> {
     let mut script = Script { heap, scene: None };
-    let mut rest = text;
-    for number in 1..usize::MAX {
-        let Some((line, more)) = cut_line(rest) else {
-            break;
-        };
-        if let Some(expected) = script.take(line, transcript)? {
-            script.tell(false, transcript)?;
-            return Err(Trouble::Line { number, expected });
+    for (i, line) in text.split(|c| *c == b'\n').enumerate() {
+        match script.take(line, transcript) {
+            Ok(()) => {}
+            Err(Stop::NoMemory) => return Err(Trouble::NoMemory),
+            Err(Stop::Expected(expected)) => {
+                script.tell(false, transcript)?;
+                let number = i + 1;
+                return Err(Trouble::Line { number, expected });
+            }
         }
-        rest = more;
     }
     script.tell(true, transcript)?;
     Ok(())

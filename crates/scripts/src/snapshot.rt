@@ -2,7 +2,7 @@
 use control::Control;
 use faults::Fault;
 use module::Module;
-use outputs::{FullStepCoils, HalfStepCoils, LineOutput, PulseOutput, StepOutput};
+use outputs::{Drive, LineOutput, MotorCoils, PulseOutput, StepOutput};
 
 // What an output shows: the pattern of its lines, or its pulses forward and back.
 #[derive(Clone, Copy)]
@@ -15,13 +15,7 @@ pub(crate) trait ShownOutput: StepOutput {
     fn show(&self) -> Shown;
 }
 
-impl ShownOutput for FullStepCoils {
-    fn show(&self) -> Shown {
-        Shown::Lines(self.lines())
-    }
-}
-
-impl ShownOutput for HalfStepCoils {
+impl<D: Drive> ShownOutput for MotorCoils<D> {
     fn show(&self) -> Shown {
         Shown::Lines(self.lines())
     }
@@ -43,8 +37,8 @@ pub(crate) struct Snapshot {
     pub shown: Shown,
 }
 
-impl Snapshot {
-    pub(crate) fn of<O: ShownOutput>(module: &Module<O>) -> Snapshot {
+impl<O: ShownOutput> From<&Module<O>> for Snapshot {
+    fn from(module: &Module<O>) -> Snapshot {
         let axis = module.axis();
         Snapshot {
             control: *module.control(),

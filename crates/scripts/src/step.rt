@@ -18,5 +18,4 @@ pub enum Step<'a> {
     Ticks(usize),
     Fault,
     State,
-    Nothing,
 }

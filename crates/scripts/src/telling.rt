@@ -1,18 +1,17 @@
 // The transcript of a module's calls, under the lines that they come from.
-use crate::scene::{Entry, Scene, Told};
+use crate::scene::{Entry, RECORDS, Scene, Told};
 use crate::snapshot::Snapshot;
 use crate::transcript::Transcript;
+use faults::Fault;
 use history::Answer;
 use phases::Phase;
 use std::alloc::AllocError;
-
-const RECORDS: usize = 414;
 
 // The answers of all calls, how many of them are told, and whether the module is busy then, where that is known.
 #[derive(Drop)]
 struct Telling<'a, 'b> {
     scene: &'a Scene<'b>,
-    answers: Vec<Answer>,
+    answers: Vec<Result<Answer, Fault>>,
     told: usize,
     busy: Option<bool>,
 }
@@ -40,16 +39,13 @@ impl Moment {
     }
 
     fn busy(&self) -> bool {
-        match &self.now {
-            Some(now) => now.control.busy(),
-            None => false,
-        }
+        self.now.is_some_and(|now| now.control.busy())
     }
 }
 
 impl<'a, 'b> Telling<'a, 'b> {
     fn new(scene: &'a Scene<'b>) -> Result<Telling<'a, 'b>, AllocError> {
-        let answers = vec![in scene.heap; Answer::Done; scene.calls.len()]?;
+        let answers = vec![in scene.heap; Ok(Answer::Done); scene.calls.len()]?;
         Ok(Telling {
             scene,
             answers,
@@ -68,11 +64,11 @@ impl<'a, 'b> Telling<'a, 'b> {
     }
 
     // The answers of a line's calls.
-    fn answers_to(&self, reached: usize) -> &[Answer] {
-        match self.answers.as_slice().get(self.told..reached) {
-            Some(answers) => answers,
-            None => &[],
-        }
+    fn answers_to(&self, reached: usize) -> &[Result<Answer, Fault>] {
+        self.answers
+            .as_slice()
+            .get(self.told..reached)
+            .unwrap_or(&[])
     }
 
     // Tells the answers of a line's calls.
@@ -84,13 +80,13 @@ impl<'a, 'b> Telling<'a, 'b> {
         let mut busy = self.busy;
         for answer in self.answers_to(reached) {
             match answer {
-                Answer::Refused(fault) => transcript.refused(*fault)?,
-                Answer::Reply(reply) => {
-                    transcript.reply(reply.bytes.get(0..reply.length).unwrap_or(&[]))?;
+                Err(fault) => transcript.refused(*fault)?,
+                Ok(Answer::Reply(reply)) => {
+                    transcript.reply(reply.bytes.get(..reply.length).unwrap_or(&[]))?;
                     busy = None;
                 }
-                Answer::Ticked(_, now) => busy = Some(*now),
-                Answer::Done => busy = None,
+                Ok(Answer::Ticked(_, now)) => busy = Some(*now),
+                Ok(Answer::Done) => busy = None,
             }
         }
         self.busy = busy;
@@ -102,7 +98,7 @@ impl<'a, 'b> Telling<'a, 'b> {
         if let Some(busy) = self.busy {
             return Ok(busy);
         }
-        if let Some(Answer::Ticked(step, busy)) = self.answers_to(reached).first() {
+        if let Some(Ok(Answer::Ticked(step, busy))) = self.answers_to(reached).first() {
             if *step != 0 || *busy {
                 return Ok(true);
             }
@@ -118,7 +114,7 @@ impl<'a, 'b> Telling<'a, 'b> {
     ) -> Result<(), AllocError> {
         let mut busy = self.busy_before(reached)?;
         for (i, answer) in self.answers_to(reached).iter().enumerate() {
-            if let Answer::Ticked(step, now) = answer {
+            if let Ok(Answer::Ticked(step, now)) = answer {
                 if *step != 0 || *now != busy {
                     transcript.tick(i + 1, *step, *now)?;
                 }

@@ -1,28 +1,16 @@
 // The lines of a transcript.
-ghost use Rattle.std.specs.Prelude.{◌≡◌, ◌<◌, [], ◌++◌, OnOk};
-ghost use Rattle.scripts.specs.Replies.{hex_letter, escaped_of, escaped_all, reply_of, echo_of};
+ghost use Rattle.std.specs.Prelude.{◌≡◌, [], ◌++◌, OnOk};
+ghost use Rattle.scripts.specs.Replies.{escaped_of, escaped_all, reply_of, echo_of};
 
 use crate::fault_text::FaultText;
 use faults::Fault;
+use replies::hexadecimal;
 use std::alloc::{AllocError, Global};
 
 #[derive(Drop)]
 pub struct Transcript {
     pub(crate) heap: Global,
     bytes: Vec<u8>,
-}
-
-// A flag in one figure.
-pub(crate) fn flag(on: bool) -> u8 {
-    if on { 1 } else { 0 }
-}
-
-// The hexadecimal figure of a number.
-fn hex_figure(n: u8) -> u8
-    requires { n < 16 }
-    ensures { result ≡ hex_letter n }
-{
-    if n < 10 { b'0' + n } else { b'A' + (n - 10) }
 }
 
 impl Transcript {
@@ -51,10 +39,12 @@ impl Transcript {
     fn add_escaped(&mut self, byte: u8) -> Result<(), AllocError>
         ensures { OnOk result (self.new.bytes.items ≡ self.old.bytes.items ++ escaped_of byte) }
     {
-        if byte >= 0x20 && byte <= 0x7E {
-            self.add(&[byte])
-        } else {
-            self.add(&[b'\\', b'x', hex_figure(byte / 16), hex_figure(byte % 16)])
+        match byte {
+            0x20..=0x7E => self.add(&[byte]),
+            _ => {
+                let [high, low] = hexadecimal(byte);
+                self.add(&[b'\\', b'x', high, low])
+            }
         }
     }
 
@@ -93,7 +83,7 @@ impl Transcript {
 
     // A tick with a step or a change of busy.
     pub(crate) fn tick(&mut self, number: usize, step: i8, busy: bool) -> Result<(), AllocError> {
-        let busy = flag(busy);
+        let busy = u8::from(busy);
         let sign = if step > 0 { "+" } else { "" };
         let line = format!(in self.heap; "t {number} step {sign}{step} busy {busy}\n")?;
         self.add(line.as_bytes())
@@ -101,7 +91,7 @@ impl Transcript {
 
     // The end of a line of ticks.
     pub(crate) fn after(&mut self, count: usize, busy: bool) -> Result<(), AllocError> {
-        let busy = flag(busy);
+        let busy = u8::from(busy);
         let line = format!(in self.heap; "after {count} ticks: busy {busy}\n")?;
         self.add(line.as_bytes())
     }

@@ -13,7 +13,7 @@ use Rattle.sheet.specs.declared.entry.Fate.TheVariants as fate
 
 abbrev pub is_refused : Fate → Bool
 is_refused fate.Accepted = false
-is_refused (fate.Found s p r) = false
+is_refused (fate.Found at r) = false
 is_refused fate.OtherCommand = false
 is_refused (fate.Refused f) = true
 is_refused fate.Stranger = false
@@ -22,10 +22,10 @@ is_refused fate.Stranger = false
 abbrev pub found_by : Option (Result Order Fault) → Option Phase → Fate
 found_by None p = fate.Accepted
 found_by (Some (Err e)) p = fate.Accepted
-found_by (Some (Ok (order.Create n k))) p = fate.Accepted
+found_by (Some (Ok (order.Create b))) p = fate.Accepted
 found_by (Some (Ok (order.Erase n))) p = fate.Accepted
-found_by (Some (Ok (order.Write n k q))) p = fate.Accepted
-found_by (Some (Ok (order.Read n k))) p = fate.Found n k p
+found_by (Some (Ok (order.Write at q))) p = fate.Accepted
+found_by (Some (Ok (order.Read at))) p = fate.Found at p
 found_by (Some (Ok order.Other)) p = fate.Accepted
 
 -- the loader's answer

@@ -1,6 +1,5 @@
 pub mod Addresses
 pub mod Characters
-pub mod Counts
 pub mod Desks
 pub mod Fates
 pub mod Files

@@ -1,18 +1,17 @@
 -- The counts of a proof sheet, and when it is clean.
-use Rattle.std.specs.Prelude.{ℕ, Bool, not, ◌&&◌, List, length, vec_items, vec_len, ◌==◌}
+use Rattle.std.specs.Prelude.{ℕ, Bool, not, ◌&&◌, List, length, vec_items, vec_len, ◌==◌, count_by}
 use Rattle.lines.specs.Lines.{kept}
 use Rattle.sheet.specs.declared.entry.Entry.{Entry}
 use Rattle.sheet.specs.declared.verdict.ShelfPhase.{ShelfPhase}
 use Rattle.sheet.specs.declared.sheet.Sheet.{Sheet}
-use Rattle.sheet.specs.Counts.{count_of}
 use Rattle.sheet.specs.Fates.{is_refused}
 use Rattle.sheet.specs.Verdicts.{is_stored}
 
 abbrev pub refused_in : List Entry → ℕ
-refused_in es = count_of (λ e. is_refused e.fate) es
+refused_in es = count_by (λ e. is_refused e.fate) es
 
 abbrev pub stored_in : List ShelfPhase → ℕ
-stored_in ps = count_of (λ p. is_stored p.verdict) ps
+stored_in ps = count_by (λ p. is_stored p.verdict) ps
 
 -- the file ends in the middle of a line
 abbrev pub is_unfinished : Sheet → Bool

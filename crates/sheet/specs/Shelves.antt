@@ -1,10 +1,10 @@
 -- The shelf as a list of the phases that are meant.
-use Rattle.std.specs.Prelude.{ℕ, ◌+◌, Bool, false, cond, ◌&&◌, ◌||◌, List, [], ◌∷◌, ◌++◌, Some, None, Ok, Err, Option, Result, ◌==◌, nat_le, slice_set}
+use Rattle.std.specs.Prelude.{ℕ, Bool, false, not, cond, ◌&&◌, ◌||◌, List, [], ◌∷◌, ◌++◌, Some, None, Ok, Err, Option, Result, ◌==◌, nat_le, slice_set, filter, position}
 use Rattle.faults.specs.declared.Fault.{Fault}
-use Rattle.sheet.specs.Counts.{sifted}
+use Rattle.phases.specs.declared.phase.Position.{Position}
 use Rattle.sheet.specs.declared.shelf.Meant.{Meant}
 use Rattle.sheet.specs.declared.shelf.Step.{Step}
-use Rattle.sheet.specs.declared.shelf.Step.TheVariants.{Put, TakeOff, Nothing}
+use Rattle.sheet.specs.declared.shelf.Step.TheVariants.{Put, TakeOff}
 
 -- a number from 1 to h
 abbrev pub number_to : ℕ → Result ℕ Fault → Option ℕ
@@ -16,6 +16,15 @@ same_number None b = false
 same_number (Some x) None = false
 same_number (Some x) (Some y) = x == y
 
+-- the position of a phase that has both numbers
+abbrev pub position_in : Option ℕ → Option ℕ → Option Position
+position_in None k = None
+position_in (Some n) None = None
+position_in (Some n) (Some k) = Some (record { sequence = n; phase = k })
+
+abbrev pub position_of : Meant → Option Position
+position_of p = position_in p.sequence p.phase
+
 -- the same phase of the same sequence
 abbrev pub same_place : Meant → Meant → Bool
 same_place p q = same_number p.sequence q.sequence && same_number p.phase q.phase
@@ -24,10 +33,9 @@ same_place p q = same_number p.sequence q.sequence && same_number p.phase q.phas
 abbrev pub erases : ℕ → Meant → Bool
 erases n p = n == 0 || same_number p.sequence (Some n)
 
--- where the first phase of the same sequence and number stands, counted from i
-abbrev pub place_of : ℕ → Meant → List Meant → Option ℕ
-place_of i p [] = None
-place_of i p (q ∷ qs) = cond (same_place q p) (Some i) (place_of (i + 1) p qs)
+-- where the first phase of the same sequence and number stands
+abbrev pub place_of : Meant → List Meant → Option ℕ
+place_of p qs = position (λ q. same_place q p) qs
 
 abbrev pub put_at : Option ℕ → Meant → List Meant → List Meant
 put_at None p qs = qs ++ p ∷ []
@@ -35,13 +43,13 @@ put_at (Some i) p qs = slice_set qs i p
 
 -- a phase put in the place of the one of the same sequence and number, or at the end
 abbrev pub replaced : Meant → List Meant → List Meant
-replaced p qs = put_at (place_of 0 p qs) p qs
+replaced p qs = put_at (place_of p qs) p qs
 
 -- what erasing a sequence leaves
 abbrev pub kept_of : ℕ → List Meant → List Meant
-kept_of n qs = sifted (erases n) qs
+kept_of n qs = filter (λ q. not (erases n q)) qs
 
-abbrev pub stepped : Step → List Meant → List Meant
-stepped (Put p) qs = replaced p qs
-stepped (TakeOff n) qs = kept_of n qs
-stepped Nothing qs = qs
+abbrev pub stepped : Option Step → List Meant → List Meant
+stepped (Some (Put p)) qs = replaced p qs
+stepped (Some (TakeOff n)) qs = kept_of n qs
+stepped None qs = qs

@@ -6,18 +6,14 @@ use crate::text::{ReadBack, Text};
 use faults::{Cause, Fault, Place};
 use lines::Line;
 use loader::{Done, Order, Outcome};
-use phases::Phase;
+use phases::{Phase, Position};
 use std::fmt;
 
 // What became of a line.
 #[derive(Clone, Copy)]
 pub enum Fate {
     Accepted,
-    Found {
-        sequence: u8,
-        phase: u8,
-        record: Option<Phase>,
-    },
+    Found { at: Position, record: Option<Phase> },
     OtherCommand,
     Refused(Fault),
     Stranger,
@@ -49,10 +45,7 @@ impl Fate {
     pub(crate) fn is_refused(&self) -> bool
         ensures { result ≡ is_refused self.now }
     {
-        match self {
-            Fate::Refused(_) => true,
-            _ => false,
-        }
+        matches!(self, Fate::Refused(_))
     }
 }
 
@@ -61,54 +54,53 @@ fn found(order: Option<Result<Order, Fault>>, read: Option<Phase>) -> Fate
     ensures { result ≡ found_by order read }
 {
     match order {
-        Some(Ok(Order::Read { number, np })) => Fate::Found {
-            sequence: number,
-            phase: np,
-            record: read,
-        },
+        Some(Ok(Order::Read(at))) => Fate::Found { at, record: read },
         _ => Fate::Accepted,
     }
 }
 
 // Why a line is refused, in plain words.
-fn write_reason<W: fmt::Write>(f: &mut fmt::Formatter<W>, fault: Fault) -> fmt::Result {
-    let word = fault.word;
-    match fault.cause {
-        Cause::WrongForm if word == 1 => write!(f, "a question cannot be a broadcast"),
-        Cause::WrongForm => write!(f, "word {word} is missing, surplus or of wrong form"),
-        Cause::PastLimit => write!(f, "the value of word {word} is past its limit"),
-        Cause::NoSuchPhase if fault.place == Place::Store => write!(
-            f,
-            "the phase of word {word} is above the sequence's reserve"
-        ),
-        Cause::NoSuchPhase => write!(f, "word {word} numbers no phase of any sequence"),
-        Cause::NoSequence => write!(f, "there is no sequence of the number in word {word}"),
-        Cause::SequenceExists => write!(
-            f,
-            "there is a sequence of the number in word {word} already"
-        ),
-        Cause::MemoryFull => write!(
-            f,
-            "the phase memory has no room for the phases of word {word}"
-        ),
-        Cause::UnknownCommand => write!(f, "the first word names no command"),
-        Cause::BadLine => write!(f, "the line has more than 64 characters"),
-        _ => write!(f, "the module cannot do this now"),
+#[derive(Clone, Copy)]
+struct Reason(Fault);
+
+impl fmt::Display for Reason {
+    fn fmt<W: fmt::Write>(&self, f: &mut fmt::Formatter<W>) -> fmt::Result {
+        let fault = self.0;
+        let word = fault.word.unwrap_or(0);
+        match fault.cause {
+            Cause::WrongForm if word == 1 => write!(f, "a question cannot be a broadcast"),
+            Cause::WrongForm => write!(f, "word {word} is missing, surplus or of wrong form"),
+            Cause::PastLimit => write!(f, "the value of word {word} is past its limit"),
+            Cause::NoSuchPhase if fault.place == Place::Store => write!(
+                f,
+                "the phase of word {word} is above the sequence's reserve"
+            ),
+            Cause::NoSuchPhase => write!(f, "word {word} numbers no phase of any sequence"),
+            Cause::NoSequence => write!(f, "there is no sequence of the number in word {word}"),
+            Cause::SequenceExists => write!(
+                f,
+                "there is a sequence of the number in word {word} already"
+            ),
+            Cause::MemoryFull => write!(
+                f,
+                "the phase memory has no room for the phases of word {word}"
+            ),
+            Cause::UnknownCommand => write!(f, "the first word names no command"),
+            Cause::BadLine => write!(f, "the line has more than 64 characters"),
+            _ => write!(f, "the module cannot do this now"),
+        }
     }
 }
 
 // A refusal with its cause, its place and its word.
 fn write_refusal<W: fmt::Write>(f: &mut fmt::Formatter<W>, fault: Fault) -> fmt::Result {
-    write!(f, "refused: ")?;
-    write_reason(f, fault)?;
+    let reason = Reason(fault);
     let number = fault.cause.number();
-    let place = Text(fault.place.name());
-    write!(f, " ({number}) at the {place}")?;
-    let word = fault.word;
-    if word > 0 {
-        write!(f, ", word {word}")
-    } else {
-        Ok(())
+    let place = fault.place;
+    write!(f, "refused: {reason} ({number}) at the {place}")?;
+    match fault.word {
+        Some(word) => write!(f, ", word {word}"),
+        None => Ok(()),
     }
 }
 
@@ -118,13 +110,11 @@ impl fmt::Display for Fate {
             Fate::Accepted => write!(f, "accepted"),
             Fate::Found { record: None, .. } => write!(f, "accepted (unwritten)"),
             Fate::Found {
-                sequence,
-                phase,
+                at,
                 record: Some(record),
             } => {
                 let found = ReadBack {
-                    sequence: *sequence,
-                    phase: *phase,
+                    at: *at,
                     record: *record,
                 };
                 write!(f, "accepted ({found})")
@@ -137,6 +127,12 @@ impl fmt::Display for Fate {
 }
 
 impl Entry {
+    pub(crate) fn is_refused(&self) -> bool
+        ensures { result ≡ is_refused self.now.fate }
+    {
+        self.fate.is_refused()
+    }
+
     // How many characters of the line are shown.
     pub(crate) fn width(&self) -> usize {
         self.line.characters().len()

@@ -19,10 +19,9 @@ use std::alloc::{AllocError, Global};
 
 const CAPACITY: usize = 414;
 
-// What is noted of the lines so far: each with what became of it, and the shelf.
+// What is noted of the lines so far: each with what became of it, and the shelf, a list of its own.
 #[derive(Drop)]
 struct Notes {
-    heap: Global,
     address: u8,
     entries: Vec<Entry>,
     shelf: Vec<Meant>,
@@ -33,7 +32,6 @@ impl Notes {
         ensures { result.entries.items ≡ [] }
     {
         Notes {
-            heap,
             address,
             entries: Vec::new(heap),
             shelf: Vec::new(heap),
@@ -44,8 +42,7 @@ impl Notes {
     fn step(&mut self, line: &Line) -> Result<(), AllocError>
         ensures { self.new.entries ≡ self.old.entries }
     {
-        let step = Step::of(line, self.address);
-        take_step(self.heap, &mut self.shelf, step)
+        take_step(&mut self.shelf, Step::of(line, self.address))
     }
 
     // Notes a line that has ended.
@@ -97,37 +94,31 @@ impl Desk {
 
     // What the store reads back in the place of a phase.
     fn read_back(&self, meant: &Meant) -> Option<Phase> {
-        let sequence = meant.sequence?;
-        let phase = meant.phase?;
-        match self.loader.read(self.memory.as_slice(), sequence, phase) {
-            Ok(found) => found,
-            Err(_) => None,
-        }
+        let at = meant.position()?;
+        self.loader.read(self.memory.as_slice(), at).ok().flatten()
     }
 
     // The shelf against the store.
-    fn compare(&self) -> Result<Vec<ShelfPhase>, AllocError>
+    fn compare(&self, heap: Global) -> Result<Vec<ShelfPhase>, AllocError>
         ensures { IfOk result (λ v. meant_in v.items ≡ self.now.notes.shelf.items) }
     {
-        let shelf = self.notes.shelf.as_slice();
-        let mut compared = Vec::new(self.notes.heap);
-        for meant in shelf {
-            let verdict = Verdict::of(meant.record, self.read_back(meant));
-            compared.push(ShelfPhase {
+        self.notes
+            .shelf
+            .iter()
+            .map(|meant| ShelfPhase {
                 meant: *meant,
-                verdict,
-            })?;
-        }
-        Ok(compared)
+                verdict: Verdict::of(meant.record, self.read_back(meant)),
+            })
+            .collect(heap)
     }
 
     // The sheet at the file's end, where an unfinished line counts for the shelf.
-    fn finish(mut self) -> Result<Sheet, AllocError>
+    fn finish(mut self, heap: Global) -> Result<Sheet, AllocError>
         ensures { IfOk result (λ s. told s ≡ progress self) }
     {
         let held = *self.receiver.held();
         self.notes.step(&held)?;
-        let shelf = self.compare()?;
+        let shelf = self.compare(heap)?;
         let Desk { notes, .. } = self;
         let Notes { entries, .. } = notes;
         Ok(Sheet {
@@ -146,7 +137,7 @@ fn read_text(heap: Global, loader: Loader, bytes: &[u8]) -> Result<Sheet, AllocE
     for byte in bytes {
         desk.take(*byte)?;
     }
-    desk.finish()
+    desk.finish(heap)
 }
 
 // The proof sheet of a file's bytes at a module of the address. It tells every line of the file, and the
@@ -156,15 +147,11 @@ pub fn proofread(heap: Global, address: u8, bytes: &[u8]) -> Result<Sheet, Unrea
     ensures stray { IfErr result (λ e. Explained bytes.now e) }
     ensures lines { IfOk result (λ s. told s ≡ gathered nothing bytes.now) }
 {
-    let Ok(loader) = Loader::new(address) else {
-        return Err(Unreadable::WrongAddress);
-    };
+    let loader = Loader::new(address).map_err(|_| Unreadable::WrongAddress)?;
     if let Some((offset, value)) = stray_byte(bytes) {
         return Err(Unreadable::NotText { offset, value });
     }
-    let Ok(sheet) = read_text(heap, loader, bytes) else {
-        return Err(Unreadable::NoMemory);
-    };
+    let sheet = read_text(heap, loader, bytes).map_err(|_| Unreadable::NoMemory)?;
     if sheet.entries.is_empty() && !sheet.is_unfinished() {
         return Err(Unreadable::Empty);
     }

@@ -1,5 +1,5 @@
 // The proof sheet of a sequence file.
-ghost use Rattle.std.specs.Prelude.{◌≡◌, ◌≤◌, length, vec_len};
+ghost use Rattle.std.specs.Prelude.{◌≡◌, ◌≤◌, vec_len};
 ghost use Rattle.sheet.specs.Sheets.{refused_in, stored_in, is_unfinished, is_clean};
 
 use crate::entry::Entry;
@@ -17,39 +17,12 @@ pub struct Sheet {
     pub shelf: Vec<ShelfPhase>,
 }
 
-// How many lines are refused.
-fn refused_in(entries: &[Entry]) -> usize
-    ensures { result ≡ refused_in entries.now }
-{
-    let mut count: usize = 0;
-    for entry in entries {
-        if entry.fate.is_refused() {
-            count += 1;
-        }
-    }
-    count
-}
-
-// How many phases are stored as on the shelf.
-fn stored_in(shelf: &[ShelfPhase]) -> usize
-    ensures value { result ≡ stored_in shelf.now }
-    ensures within { result ≤ length shelf.now }
-{
-    let mut count: usize = 0;
-    for phase in shelf {
-        if phase.verdict.is_stored() {
-            count += 1;
-        }
-    }
-    count
-}
-
 impl Sheet {
-    // How many lines are refused.
+    // How many lines are refused. This and `stored` are one call of the library each, which no generic count would shorten.
     pub fn refused(&self) -> usize
         ensures { result ≡ refused_in self.now.entries.items }
     {
-        refused_in(self.entries.as_slice())
+        self.entries.iter().filter(|line| line.is_refused()).count()
     }
 
     // How many phases the file means to store.
@@ -64,7 +37,7 @@ impl Sheet {
         ensures value { result ≡ stored_in self.now.shelf.items }
         ensures within { result ≤ vec_len self.now.shelf }
     {
-        stored_in(self.shelf.as_slice())
+        self.shelf.iter().filter(|phase| phase.is_stored()).count()
     }
 
     // Whether the file ends in the middle of a line.
@@ -82,16 +55,12 @@ impl Sheet {
     }
 
     fn widest(&self) -> usize {
-        let mut width: usize = 0;
-        for entry in self.entries.iter() {
-            width = width.max(entry.width());
-        }
-        width
+        self.entries.iter().map(Entry::width).max().unwrap_or(0)
     }
 
     fn write_entries<W: fmt::Write>(&self, f: &mut fmt::Formatter<W>) -> fmt::Result {
         let width = self.widest();
-        for entry in self.entries.iter() {
+        for entry in &self.entries {
             entry.write(f, width)?;
         }
         Ok(())
@@ -113,7 +82,7 @@ impl Sheet {
     fn write_shelf<W: fmt::Write>(&self, f: &mut fmt::Formatter<W>) -> fmt::Result {
         writeln!(f)?;
         writeln!(f, "the shelf against the store")?;
-        for phase in self.shelf.iter() {
+        for phase in &self.shelf {
             write!(f, "{phase}")?;
         }
         Ok(())

@@ -4,10 +4,11 @@ ghost use Rattle.sheet.specs.Verdicts.{Judged, is_stored};
 
 use crate::shelf::Meant;
 use crate::text::{ReadBack, Text};
-use phases::Phase;
+use phases::{Phase, Position};
 use std::fmt;
 
 // Whether the store reads back what the line means.
+// Three named verdicts read plainer than an Option of a Result of two phases.
 #[derive(Clone, Copy)]
 pub enum Verdict {
     Stored(Phase),
@@ -27,16 +28,10 @@ impl Verdict {
     pub(crate) fn of(meant: Option<Phase>, found: Option<Phase>) -> Verdict
         ensures { Judged meant found result }
     {
-        match (meant, found) {
-            (_, None) => Verdict::Missing,
-            (None, Some(stored)) => Verdict::Otherwise(stored),
-            (Some(wanted), Some(stored)) => {
-                if wanted == stored {
-                    Verdict::Stored(stored)
-                } else {
-                    Verdict::Otherwise(stored)
-                }
-            }
+        match found {
+            None => Verdict::Missing,
+            Some(stored) if meant == found => Verdict::Stored(stored),
+            Some(stored) => Verdict::Otherwise(stored),
         }
     }
 
@@ -44,38 +39,45 @@ impl Verdict {
     pub(crate) fn is_stored(&self) -> bool
         ensures { result ≡ is_stored self.now }
     {
-        match self {
-            Verdict::Stored(_) => true,
-            _ => false,
-        }
+        matches!(self, Verdict::Stored(_))
+    }
+}
+
+impl ShelfPhase {
+    pub(crate) fn is_stored(&self) -> bool
+        ensures { result ≡ is_stored self.now.verdict }
+    {
+        self.verdict.is_stored()
     }
 }
 
 // A number in two figures, or -- for none.
-fn write_number<W: fmt::Write>(f: &mut fmt::Formatter<W>, number: Option<u8>) -> fmt::Result {
-    match number {
-        Some(number) => write!(f, "{number:02}"),
-        None => write!(f, "--"),
+#[derive(Clone, Copy)]
+struct Figures(Option<u8>);
+
+impl fmt::Display for Figures {
+    fn fmt<W: fmt::Write>(&self, f: &mut fmt::Formatter<W>) -> fmt::Result {
+        match self.0 {
+            Some(number) => write!(f, "{number:02}"),
+            None => write!(f, "--"),
+        }
     }
 }
 
 impl Meant {
     fn write_place<W: fmt::Write>(&self, f: &mut fmt::Formatter<W>) -> fmt::Result {
-        write!(f, "sequence ")?;
-        write_number(f, self.sequence)?;
-        write!(f, "  phase ")?;
-        write_number(f, self.phase)
+        let sequence = Figures(self.sequence);
+        let phase = Figures(self.phase);
+        write!(f, "sequence {sequence}  phase {phase}")
     }
 
     // Writes a record in the place of this phase, as it is read back.
     fn write_record<W: fmt::Write>(&self, f: &mut fmt::Formatter<W>, record: Phase) -> fmt::Result {
-        let sequence = self.sequence.unwrap_or(0);
-        let phase = self.phase.unwrap_or(0);
-        let text = ReadBack {
-            sequence,
-            phase,
-            record,
+        let at = Position {
+            sequence: self.sequence.unwrap_or(0),
+            phase: self.phase.unwrap_or(0),
         };
+        let text = ReadBack { at, record };
         writeln!(f, "{text}")
     }
 

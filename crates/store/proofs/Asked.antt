@@ -40,6 +40,16 @@ pub refused_full : (bs : List Block) (n k : ℕ) (r : Option Span) (there : Bool
     → (n ≡ 0 → ⊥) → n ≤ 99 → (k ≡ 0 → ⊥) → k ≤ 50 → 414 < reserved bs + k → ◌≡◌ {A = Result (Unit {0}) Fault} (Err f) (create_answer bs n k)
 refused_full bs n k r there f e s absence g z l y j h = ap Err g ∙ answers_full bs n r e k z l y j (sym s ∙ absence) h
 
+-- a sequence that exists
+pub refused_exists : (bs : List Block) (n k : ℕ) (r : Option Span) (there : Bool) (f : Fault) → r ≡ placed 0 0 bs n → there ≡ is_some r → there ≡ true → f ≡ sequence_exists
+    → (n ≡ 0 → ⊥) → n ≤ 99 → (k ≡ 0 → ⊥) → k ≤ 50 → ◌≡◌ {A = Result (Unit {0}) Fault} (Err f) (create_answer bs n k)
+refused_exists bs n k r there f e s exists g z l y j = ap Err g ∙ answers_exists bs n r e k z l y j (sym s ∙ exists)
+
+-- a sequence for which there is room
+pub admitted : (bs : List Block) (n k : ℕ) (r : Option Span) (there : Bool) → r ≡ placed 0 0 bs n → there ≡ is_some r → there ≡ false
+    → (n ≡ 0 → ⊥) → n ≤ 99 → (k ≡ 0 → ⊥) → k ≤ 50 → reserved bs + k ≤ 414 → ◌≡◌ {A = Result (Unit {0}) Fault} (Ok tt) (create_answer bs n k)
+admitted bs n k r there e s absence z l y j h = answers_ok bs n r e k z l y j (sym s ∙ absence) h
+
 module _ (bs : List Block) (n : ℕ) (z : n ≡ 0 → ⊥) (s : sound bs ≡ true) where
   pub erases_blocks : (p : Span) → Some p ≡ placed 0 0 bs n → remove bs p.index ≡ erased_blocks bs n
   erases_blocks p e =

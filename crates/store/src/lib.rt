@@ -4,5 +4,5 @@
 mod directory;
 mod laws;
 
-pub use directory::{Block, Directory, Span};
+pub use directory::{Block, Directory, Span, whole};
 pub use laws::store_laws;

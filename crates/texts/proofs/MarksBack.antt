@@ -52,7 +52,7 @@ marks_levels (suc w) n l h e =
     let less : l % 2 ≤ n % 2 = omega arith in
     omega (arith, marks_levels w (n / 2) (l / 2) (omega arith) half, mark_level (n % 2) (l % 2) (omega arith) (omega arith) less)
 
-pub marks_read : (n l : ℕ) → n < 256 → LevelsFit n l ≡ true → inputs_of (marks 8 n l) ≡ Some (record { named = n; levels = l })
+pub marks_read : (n l : ℕ) → n < 256 → LevelsFit (record { named = n; levels = l }) ≡ true → inputs_of (marks 8 n l) ≡ Some (record { named = n; levels = l })
 marks_read n l h f =
     cond-true _ _ _ (and_from _ _ (eq-eqb _ _ (marks_length 8 n l)) (marks_are 8 n l))
     ∙ (λ i. Some (record { named = marks_named 8 n l (omega arith) i; levels = marks_levels 8 n l (omega arith) (eqb-true _ _ f) i }))

@@ -1,5 +1,6 @@
 -- The text of a phase reads as the same phase.
 use Rattle.std.proofs.Common.{◌≡◌, ℕ, suc, ◌≤◌, true, ◌&&◌, leb, List, [], ◌∷◌, ◌++◌, ℤ, pos, negsuc, nat_abs, IfSome, Some, None, Ok, codes, Option, sym, refl, ap, ◌∙◌, arith}
+use Rattle.std.specs.Option.{option_map}
 use Rattle.std.proofs.lemmas.Bool.{cond-true, cond-false, and_parts, and_from, le-leb, leb-true}
 use Rattle.std.proofs.lemmas.Bool.Decides.{nat_tests}
 use Rattle.faults.specs.Faults.{and_then, past_limit, no_such_phase}
@@ -8,34 +9,33 @@ use Rattle.words.specs.Readings.{end}
 use Rattle.words.specs.Tags.{past_field}
 use Rattle.words.proofs.Spaced.{Solid, AllSolid, words_spaced}
 use Rattle.replies.specs.Replies.{figures_of}
+use Rattle.phases.specs.declared.phase.Inputs.{Inputs}
 use Rattle.phases.specs.declared.phase.Link.{Link}
 use Rattle.phases.specs.declared.phase.Link.TheVariants as link
 use Rattle.phases.specs.declared.phase.Nature.{Nature}
 use Rattle.phases.specs.declared.phase.Nature.TheVariants.{Relative, Origin, Absolute, ConstantSpeed, Wait, ZeroCounter, PlateauSpeed, PowerOn, PowerOff}
 use Rattle.phases.specs.declared.phase.Phase.{Phase}
+use Rattle.phases.specs.declared.phase.Position.{Position}
 use Rattle.senses.specs.declared.Sense.{Sense}
 use Rattle.senses.specs.declared.Sense.TheVariants.{Forward, Back}
 use Rattle.fields.specs.declared.fields.Address.{Address}
 use Rattle.fields.specs.declared.fields.Amount.{Amount}
 use Rattle.fields.specs.declared.fields.Course.{Course}
-use Rattle.fields.specs.declared.fields.Inputs.{Inputs}
 use Rattle.fields.specs.declared.fields.Motion.{Motion}
-use Rattle.fields.specs.declared.fields.RawLink.{RawLink}
-use Rattle.fields.specs.declared.fields.RawLink.TheVariants as raw
 use Rattle.texts.specs.ReadBack.{Bytes, ReadsBack}
 use Rattle.fields.specs.Fields.{sense_of, nature_of, set_point_of, inputs_of, amount_of, hexadecimal_of, sequence_of, sub_sequence_of, link_in, past_link, inputs_in, next_in, outputs_in, address_in, motion_in, course_in, past_course, sp_form}
 use Rattle.phases.specs.Phases.{Written, InLimits, SetPointFits, LinkFits, NextFits, LevelsFit}
 use Rattle.texts.specs.Texts.{sense_word, nature_word, set_point_word, link_tag, link_word, next_word, outputs_word, motion_words, course_words, phase_words}
-use Rattle.values.specs.Values.{within, address_values, set_point_value, link_value, next_value, outputs_value, record_values, sp_values}
+use Rattle.values.specs.Values.{limited, within, address_values, set_point_value, link_value, next_value, outputs_value, record_values, sp_values}
 use Rattle.texts.proofs.Figures.{figures_read, figures_solid, figures_not_xx, hex_read, hex_solid, hex_not_xx}
 use Rattle.phases.proofs.Limits.{set_point_small}
 use Rattle.texts.proofs.MarksBack.{marks_read, marks_solid}
 
 -- what the words of a record say, before their values are tested
-raw_link : Link → RawLink
-raw_link link.None = raw.None
-raw_link (link.Sequence n) = raw.Sequence (record { value = n; at = 8 })
-raw_link (link.SubSequence n) = raw.SubSequence (record { value = n; at = 8 })
+raw_link : Option (Link ℕ) → Option (Link Amount)
+raw_link None = None
+raw_link (Some (link.Sequence n)) = Some (link.Sequence (record { value = n; at = 8 }))
+raw_link (Some (link.SubSequence n)) = Some (link.SubSequence (record { value = n; at = 8 }))
 
 raw_amount : ℕ → Option ℕ → Option Amount
 raw_amount i None = None
@@ -45,7 +45,7 @@ raw_motion : Phase → Motion
 raw_motion p = record { sense = p.sense; nature = p.nature; set_point = p.set_point }
 
 raw_course : Phase → Course
-raw_course p = record { link = raw_link p.link; inputs = record { named = p.named; levels = p.levels }; next = raw_amount 12 p.next; outputs = raw_amount 14 p.outputs }
+raw_course p = record { link = raw_link p.link; inputs = p.inputs; next = raw_amount 12 p.next; outputs = raw_amount 14 p.outputs }
 
 -- a field by its words
 sense_read : (d : Sense) → sense_of (sense_word d) ≡ Some d
@@ -86,10 +86,13 @@ outputs_read (Some n) h = let r = hex_read n (omega arith) in cond-false _ _ _ (
 sequence_small : (n : ℕ) → (leb 1 n && leb n 99) ≡ true → n ≤ 99
 sequence_small n e = leb-true _ _ (and_parts _ _ e).1
 
-sequence_read : (n : ℕ) → n ≤ 99 → sequence_of 8 (figures_of 2 n) ≡ Some (raw.Sequence (record { value = n; at = 8 }))
-sequence_read n h = let r = two_read n h in cond-false _ _ _ (figures_not_xx n) ∙ rw r
+number_read : (n : ℕ) → n ≤ 99 → amount_of 8 (figures_of 2 n) ≡ Some (Some (record { value = n; at = 8 }))
+number_read n h = let r = two_read n h in cond-false _ _ _ (figures_not_xx n) ∙ rw r
 
-sub_sequence_read : (n : ℕ) → n ≤ 99 → sub_sequence_of 8 (figures_of 2 n) ≡ Some (raw.SubSequence (record { value = n; at = 8 }))
+sequence_read : (n : ℕ) → n ≤ 99 → sequence_of 8 (figures_of 2 n) ≡ Some (Some (link.Sequence (record { value = n; at = 8 })))
+sequence_read n h = ap (option_map (option_map link.Sequence)) (number_read n h)
+
+sub_sequence_read : (n : ℕ) → n ≤ 99 → sub_sequence_of 8 (figures_of 2 n) ≡ Some (Some (link.SubSequence (record { value = n; at = 8 })))
 sub_sequence_read n h = let r = two_read n h in rw r
 
 -- the parts of a phase by their words
@@ -102,39 +105,40 @@ unfolding motion_in
 motion_of a b c d k z ws e f g = rw (e, f, g)
 
 module _ (l m n o : List ℕ) (e : Inputs) (f g : Option Amount) (has_e : inputs_of m ≡ Some e) (has_f : amount_of 12 n ≡ Some f) (has_g : hexadecimal_of 14 o ≡ Some g) where
-  course_sequence : (k : RawLink) → sequence_of 8 l ≡ Some k → course_in (codes "NL" ∷ l ∷ codes "NE" ∷ m ∷ codes "NS" ∷ n ∷ codes "NO" ∷ o ∷ [], 7) ≡ Ok (record { link = k; inputs = e; next = f; outputs = g })
+  course_sequence : (k : Option (Link Amount)) → sequence_of 8 l ≡ Some k → course_in (codes "NL" ∷ l ∷ codes "NE" ∷ m ∷ codes "NS" ∷ n ∷ codes "NO" ∷ o ∷ [], 7) ≡ Ok (record { link = k; inputs = e; next = f; outputs = g })
   unfolding course_in link_in past_link inputs_in next_in outputs_in past_field
   course_sequence k h = rw (h, has_e, has_f, has_g)
 
-  course_sub_sequence : (k : RawLink) → sub_sequence_of 8 l ≡ Some k → course_in (codes "NQ" ∷ l ∷ codes "NE" ∷ m ∷ codes "NS" ∷ n ∷ codes "NO" ∷ o ∷ [], 7) ≡ Ok (record { link = k; inputs = e; next = f; outputs = g })
+  course_sub_sequence : (k : Option (Link Amount)) → sub_sequence_of 8 l ≡ Some k → course_in (codes "NQ" ∷ l ∷ codes "NE" ∷ m ∷ codes "NS" ∷ n ∷ codes "NO" ∷ o ∷ [], 7) ≡ Ok (record { link = k; inputs = e; next = f; outputs = g })
   unfolding course_in link_in past_link inputs_in next_in outputs_in past_field
   course_sub_sequence k h = rw (h, has_e, has_f, has_g)
 
 module _ (m n o : List ℕ) (e : Inputs) (f g : Option Amount) (has_e : inputs_of m ≡ Some e) (has_f : amount_of 12 n ≡ Some f) (has_g : hexadecimal_of 14 o ≡ Some g) where
-  course_by : (k : Link) → LinkFits k ≡ true → course_in (link_tag k ∷ link_word k ∷ codes "NE" ∷ m ∷ codes "NS" ∷ n ∷ codes "NO" ∷ o ∷ [], 7) ≡ Ok (record { link = raw_link k; inputs = e; next = f; outputs = g })
+  course_by : (k : Option (Link ℕ)) → LinkFits k ≡ true → course_in (link_tag k ∷ link_word k ∷ codes "NE" ∷ m ∷ codes "NS" ∷ n ∷ codes "NO" ∷ o ∷ [], 7) ≡ Ok (record { link = raw_link k; inputs = e; next = f; outputs = g })
   unfolding raw_link
-  course_by link.None h = course_sequence (codes "XX") m n o e f g has_e has_f has_g raw.None refl
-  course_by (link.Sequence k) h = course_sequence (figures_of 2 k) m n o e f g has_e has_f has_g _ (sequence_read k (sequence_small k h))
-  course_by (link.SubSequence k) h = course_sub_sequence (figures_of 2 k) m n o e f g has_e has_f has_g _ (sub_sequence_read k (sequence_small k h))
+  course_by None h = course_sequence (codes "XX") m n o e f g has_e has_f has_g None refl
+  course_by (Some (link.Sequence k)) h = course_sequence (figures_of 2 k) m n o e f g has_e has_f has_g _ (sequence_read k (sequence_small k h))
+  course_by (Some (link.SubSequence k)) h = course_sub_sequence (figures_of 2 k) m n o e f g has_e has_f has_g _ (sub_sequence_read k (sequence_small k h))
 
-ends : (k : Link) (l m n o : List ℕ) → end (past_course (link_tag k ∷ l ∷ codes "NE" ∷ m ∷ codes "NS" ∷ n ∷ codes "NO" ∷ o ∷ [], 7)) ≡ Ok tt
+ends : (k : Option (Link ℕ)) (l m n o : List ℕ) → end (past_course (link_tag k ∷ l ∷ codes "NE" ∷ m ∷ codes "NS" ∷ n ∷ codes "NO" ∷ o ∷ [], 7)) ≡ Ok tt
 unfolding past_course past_link past_field
-ends link.None l m n o = refl
-ends (link.Sequence k) l m n o = refl
-ends (link.SubSequence k) l m n o = refl
+ends None l m n o = refl
+ends (Some (link.Sequence k)) l m n o = refl
+ends (Some (link.SubSequence k)) l m n o = refl
 
 sp_of : (a b d k c : List ℕ) (A : Address) (M : Motion) (C : Course) (tail : List (List ℕ)) → address_in (a ∷ b ∷ d ∷ k ∷ c ∷ tail, 2) ≡ Ok A → motion_in (d ∷ k ∷ c ∷ tail, 4) ≡ Ok M → course_in (tail, 7) ≡ Ok C → end (past_course (tail, 7)) ≡ Ok tt → sp_form (a ∷ b ∷ d ∷ k ∷ c ∷ tail, 2) ≡ Ok (record { address = A; motion = M; course = C })
 sp_of a b d k c A M C tail e f g h = rw (e, f, g, h)
 
 -- the values are within their limits
 within_read : (low high : ℕ) (f : _) (n : ℕ) → low ≤ n → n ≤ high → within low high f n ≡ Ok n
+unfolding limited
 within_read low high f n h k = cond-true _ _ _ (and_from _ _ (le-leb _ _ h) (le-leb _ _ k))
 
-link_tested : (k : Link) → LinkFits k ≡ true → link_value (raw_link k) ≡ Ok k
-unfolding raw_link link_value
-link_tested link.None e = refl
-link_tested (link.Sequence n) e = rw e
-link_tested (link.SubSequence n) e = rw e
+link_tested : (k : Option (Link ℕ)) → LinkFits k ≡ true → link_value (raw_link k) ≡ Ok k
+unfolding raw_link link_value limited
+link_tested None e = refl
+link_tested (Some (link.Sequence n)) e = rw e
+link_tested (Some (link.SubSequence n)) e = rw e
 
 next_tested : (o : Option ℕ) → NextFits o ≡ true → next_value (raw_amount 12 o) ≡ Ok o
 unfolding raw_amount next_value
@@ -146,11 +150,11 @@ unfolding raw_amount outputs_value
 outputs_tested None h = refl
 outputs_tested (Some n) h = ap (λ r. and_then r (λ k. Ok (Some k))) (within_read 0 255 _ n (omega arith) h)
 
-address_tested : (ns np : ℕ) → (1 ≤ ns) × (ns ≤ 99) → (1 ≤ np) × (np ≤ 50) → address_values (record { sequence = ns; phase = np }) ≡ Ok (ns, np)
+address_tested : (ns np : ℕ) → (1 ≤ ns) × (ns ≤ 99) → (1 ≤ np) × (np ≤ 50) → address_values (record { sequence = ns; phase = np }) ≡ Ok (record { sequence = ns; phase = np })
 unfolding address_values
 address_tested ns np h k =
-    ap (λ r. and_then r (λ s. and_then (within 1 50 (no_such_phase 3) np) (λ p. Ok (s, p)))) (within_read 1 99 (past_limit 2) ns h.0 h.1)
-    ∙ ap (λ r. and_then r (λ p. Ok (ns, p))) (within_read 1 50 (no_such_phase 3) np k.0 k.1)
+    ap (λ r. and_then r (λ s. and_then (within 1 50 (no_such_phase 3) np) (λ p. Ok (record { sequence = s; phase = p })))) (within_read 1 99 (past_limit 2) ns h.0 h.1)
+    ∙ ap (λ r. and_then r (λ p. Ok (record { sequence = ns; phase = p }))) (within_read 1 50 (no_such_phase 3) np k.0 k.1)
 
 -- the parts of what it says that a record is written
 module _ (p : Phase) (w : Written p ≡ true) where
@@ -163,22 +167,22 @@ module _ (p : Phase) (w : Written p ≡ true) where
   set_point_fits : SetPointFits p.nature p.set_point ≡ true
   set_point_fits = (and_parts _ _ limits).0
 
-  rest : (LinkFits p.link && (NextFits p.next && LevelsFit p.named p.levels)) ≡ true
+  rest : (LinkFits p.link && (NextFits p.next && LevelsFit p.inputs)) ≡ true
   rest = (and_parts (SetPointFits p.nature p.set_point) _ limits).1
 
   link_fits : LinkFits p.link ≡ true
   link_fits = (and_parts _ _ rest).0
 
-  last : (NextFits p.next && LevelsFit p.named p.levels) ≡ true
+  last : (NextFits p.next && LevelsFit p.inputs) ≡ true
   last = (and_parts (LinkFits p.link) _ rest).1
 
   next_fits : NextFits p.next ≡ true
   next_fits = (and_parts _ _ last).0
 
-  levels_fit : LevelsFit p.named p.levels ≡ true
+  levels_fit : LevelsFit p.inputs ≡ true
   levels_fit = (and_parts (NextFits p.next) _ last).1
 
-record_of : (m : Motion) (c : Course) (z : ℤ) (l : Link) (f o : Option ℕ) → set_point_value m ≡ Ok z → link_value c.link ≡ Ok l → next_value c.next ≡ Ok f → outputs_value c.outputs ≡ Ok o → record_values m c ≡ Ok (record { written = true; sense = m.sense; nature = m.nature; set_point = z; link = l; named = c.inputs.named; levels = c.inputs.levels; next = f; outputs = o })
+record_of : (m : Motion) (c : Course) (z : ℤ) (l : Option (Link ℕ)) (f o : Option ℕ) → set_point_value m ≡ Ok z → link_value c.link ≡ Ok l → next_value c.next ≡ Ok f → outputs_value c.outputs ≡ Ok o → record_values m c ≡ Ok (record { written = true; sense = m.sense; nature = m.nature; set_point = z; link = l; inputs = c.inputs; next = f; outputs = o })
 unfolding record_values
 record_of m c z l f o e g h k = rw (e, g, h, k)
 
@@ -187,16 +191,16 @@ unfolding raw_motion raw_course set_point_value
 record_tested p b w =
     record_of (raw_motion p) (raw_course p) p.set_point p.link p.next p.outputs
     (cond-true _ _ _ (set_point_fits p w)) (link_tested p.link (link_fits p w)) (next_tested p.next (next_fits p w)) (outputs_tested p.outputs b.1)
-    ∙ (λ i. Ok (record { written = sym (flag p w) i; sense = p.sense; nature = p.nature; set_point = p.set_point; link = p.link; named = p.named; levels = p.levels; next = p.next; outputs = p.outputs }))
+    ∙ (λ i. Ok (record { written = sym (flag p w) i; sense = p.sense; nature = p.nature; set_point = p.set_point; link = p.link; inputs = p.inputs; next = p.next; outputs = p.outputs }))
 
-values_of : (A : Address) (m : Motion) (c : Course) (ns np : ℕ) (p : Phase) → address_values A ≡ Ok (ns, np) → record_values m c ≡ Ok p → sp_values (record { address = A; motion = m; course = c }) ≡ Ok (ns, np, p)
+values_of : (A : Address) (m : Motion) (c : Course) (at : Position) (p : Phase) → address_values A ≡ Ok at → record_values m c ≡ Ok p → sp_values (record { address = A; motion = m; course = c }) ≡ Ok (at, p)
 unfolding sp_values
-values_of A m c ns np p e f = rw (e, f)
+values_of A m c at p e f = rw (e, f)
 
 form_read : (ns np : ℕ) (p : Phase) → ns ≤ 99 → np ≤ 99 → Bytes p → Written p ≡ true → sp_form (phase_words ns np p, 2) ≡ Ok (record { address = record { sequence = ns; phase = np }; motion = raw_motion p; course = raw_course p })
 unfolding raw_motion raw_course motion_words course_words
 form_read ns np p h k b w =
-    let inputs = marks_read p.named p.levels (omega (arith, b.0)) (levels_fit p w) in
+    let inputs = marks_read p.inputs.named p.inputs.levels (omega (arith, b.0)) (levels_fit p w) in
     sp_of _ _ _ _ _ _ _ _ (course_words p)
     (address_of _ _ ns np _ (two_read ns h) (two_read np k))
     (motion_of _ _ _ p.sense p.nature p.set_point _ (sense_read p.sense) (nature_read p.nature) (set_point_read p.set_point (set_point_small p.nature p.set_point (set_point_fits p w))))
@@ -226,15 +230,15 @@ set_point_solid (negsuc n) = (λ e. omega arith, (λ e. omega arith, figures_sol
 letters_solid : (a b : ℕ) → 33 ≤ a → 33 ≤ b → Solid (a ∷ b ∷ [])
 letters_solid a b h k = (λ e. omega arith, (λ e. omega arith, tt))
 
-tag_solid : (k : Link) → Solid (link_tag k)
-tag_solid link.None = letters_solid _ _ (omega arith) (omega arith)
-tag_solid (link.Sequence n) = letters_solid _ _ (omega arith) (omega arith)
-tag_solid (link.SubSequence n) = letters_solid _ _ (omega arith) (omega arith)
+tag_solid : (k : Option (Link ℕ)) → Solid (link_tag k)
+tag_solid None = letters_solid _ _ (omega arith) (omega arith)
+tag_solid (Some (link.Sequence n)) = letters_solid _ _ (omega arith) (omega arith)
+tag_solid (Some (link.SubSequence n)) = letters_solid _ _ (omega arith) (omega arith)
 
-link_solid : (k : Link) → Solid (link_word k)
-link_solid link.None = letters_solid _ _ (omega arith) (omega arith)
-link_solid (link.Sequence n) = figures_solid 2 n
-link_solid (link.SubSequence n) = figures_solid 2 n
+link_solid : (k : Option (Link ℕ)) → Solid (link_word k)
+link_solid None = letters_solid _ _ (omega arith) (omega arith)
+link_solid (Some (link.Sequence n)) = figures_solid 2 n
+link_solid (Some (link.SubSequence n)) = figures_solid 2 n
 
 next_solid : (o : Option ℕ) → Solid (next_word o)
 next_solid None = letters_solid _ _ (omega arith) (omega arith)
@@ -263,7 +267,7 @@ all_solid ns np p = (
               (
                 letters_solid 78 69 (omega arith) (omega arith),
                 (
-                  marks_solid 8 p.named p.levels,
+                  marks_solid 8 p.inputs.named p.inputs.levels,
                   (letters_solid 78 83 (omega arith) (omega arith), (next_solid p.next, (letters_solid 78 79 (omega arith) (omega arith), (outputs_solid p.outputs, tt)))),
                 ),
               ),
@@ -276,7 +280,7 @@ all_solid ns np p = (
 )
 
 pub reads_back : ReadsBack
-reads_back ns np p b h k w =
-    ap (λ ws. and_then (sp_form (ws, 2)) sp_values) (words_spaced (figures_of 2 ns) (figures_of 2 np ∷ (motion_words p ++ course_words p)) (all_solid ns np p))
-    ∙ ap (λ r. and_then r sp_values) (form_read ns np p h.1 (omega (arith, k.1)) b w)
-    ∙ values_of _ _ _ ns np p (address_tested ns np h k) (record_tested p b w)
+reads_back at p b h k w =
+    ap (λ ws. and_then (sp_form (ws, 2)) sp_values) (words_spaced (figures_of 2 at.sequence) (figures_of 2 at.phase ∷ (motion_words p ++ course_words p)) (all_solid at.sequence at.phase p))
+    ∙ ap (λ r. and_then r sp_values) (form_read at.sequence at.phase p h.1 (omega (arith, k.1)) b w)
+    ∙ values_of _ _ _ at p (address_tested at.sequence at.phase h k) (record_tested p b w)

@@ -9,19 +9,18 @@ use Rattle.faults.specs.declared.Fault.{Fault}
 use Rattle.words.specs.Readings.{by, end}
 use Rattle.words.specs.Tags.{is_tag, past_field}
 use Rattle.words.specs.Words.{Ahead, words, upcoming, past}
+use Rattle.phases.specs.declared.phase.Inputs.{Inputs}
 use Rattle.phases.specs.declared.phase.Link.{Link}
 use Rattle.phases.specs.declared.phase.Link.TheVariants as link
 use Rattle.phases.specs.declared.phase.Phase.{Phase}
+use Rattle.phases.specs.declared.phase.Position.{Position}
 use Rattle.phases.specs.Phases.{Written, SetPointFits, LinkFits, NextFits, LevelsFit}
 use Rattle.fields.specs.declared.fields.Amount.{Amount}
 use Rattle.fields.specs.declared.fields.Course.{Course}
-use Rattle.fields.specs.declared.fields.Inputs.{Inputs}
 use Rattle.fields.specs.declared.fields.Motion.{Motion}
-use Rattle.fields.specs.declared.fields.RawLink.{RawLink}
-use Rattle.fields.specs.declared.fields.RawLink.TheVariants as raw
 use Rattle.fields.specs.declared.fields.RawPhase.{RawPhase}
 use Rattle.fields.specs.Fields.{named_by, level_by, named_of, levels_of, inputs_of, link_in, past_link, inputs_in, next_in, outputs_in, address_in, motion_in, course_in, past_course, sp_form}
-use Rattle.values.specs.Values.{address_values, set_point_value, link_value, next_value, outputs_value, record_values, sp_values}
+use Rattle.values.specs.Values.{limited, address_values, set_point_value, link_value, next_value, outputs_value, record_values, sp_values}
 use Rattle.texts.specs.ReadBack.{TakesWritten}
 
 -- a reading that succeeds has succeeded in its first part
@@ -60,21 +59,20 @@ marks_fit (m ∷ ms) =
     let h : bit_and (n / 2) (l / 2) ≡ bit_and (named_of ms) (levels_of ms) = halves _ _ _ _ (omega arith) (omega arith) in
     omega (arith, and_step n l, h, marks_fit ms)
 
-inputs_fit : (w : List ℕ) (e : Inputs) → inputs_of w ≡ Some e → LevelsFit e.named e.levels ≡ true
-inputs_fit w e h = subst (λ (i : Inputs). LevelsFit i.named i.levels ≡ true) (chosen _ _ e h) (eq-eqb _ _ (marks_fit w))
+inputs_fit : (w : List ℕ) (e : Inputs) → inputs_of w ≡ Some e → LevelsFit e ≡ true
+inputs_fit w e h = subst (λ (i : Inputs). LevelsFit i ≡ true) (chosen _ _ e h) (eq-eqb _ _ (marks_fit w))
 
-by_fit : (o : Option (List ℕ)) (i : ℕ) (e : Inputs) → by inputs_of o i ≡ Ok e → LevelsFit e.named e.levels ≡ true
+by_fit : (o : Option (List ℕ)) (i : ℕ) (e : Inputs) → by inputs_of o i ≡ Ok e → LevelsFit e ≡ true
 by_fit None i e h = let z : ◌≡◌ {A = ℕ} 0 1 = cc in absurd (omega arith)
 by_fit (Some w) i e h = inputs_fit w e (said _ _ e h)
 
-either_fit : (b : Bool) (o : Option (List ℕ)) (i : ℕ) (e : Inputs) → cond b (by inputs_of o i) (Ok (record { named = 0; levels = 0 })) ≡ Ok e → LevelsFit e.named e.levels ≡ true
+either_fit : (b : Bool) (o : Option (List ℕ)) (i : ℕ) (e : Inputs) → cond b (by inputs_of o i) (Ok (record { named = 0; levels = 0 })) ≡ Ok e → LevelsFit e ≡ true
 either_fit true o i e h = by_fit o i e h
 either_fit false o i e h =
-    let n : 0 ≡ e.named = cc in
-    let l : 0 ≡ e.levels = cc in
-    λ j. LevelsFit (sym n j) (sym l j)
+    let same : ◌≡◌ {A = Inputs} (record { named = 0; levels = 0 }) e = cc in
+    ap LevelsFit (sym same)
 
-course_fit : (s : Ahead) (c : Course) → course_in s ≡ Ok c → LevelsFit c.inputs.named c.inputs.levels ≡ true
+course_fit : (s : Ahead) (c : Course) → course_in s ≡ Ok c → LevelsFit c.inputs ≡ true
 unfolding course_in inputs_in
 course_fit s c h =
     let l = then_ok (link_in s) _ c h in
@@ -82,9 +80,9 @@ course_fit s c h =
     let f = then_ok (next_in (past_field (codes "NE") (past_link s))) _ c e.1.1 in
     let o = then_ok (outputs_in (past_field (codes "NS") (past_field (codes "NE") (past_link s)))) _ c f.1.1 in
     let same : e.0 ≡ c.inputs = (let k = o.1.1 in cc) in
-    subst (λ (i : Inputs). LevelsFit i.named i.levels ≡ true) same (either_fit (is_tag (codes "NE") (upcoming (past_link s))) (upcoming (past (past_link s))) (past (past_link s)).1 e.0 e.1.0)
+    subst (λ (i : Inputs). LevelsFit i ≡ true) same (either_fit (is_tag (codes "NE") (upcoming (past_link s))) (upcoming (past (past_link s))) (past (past_link s)).1 e.0 e.1.0)
 
-form_fit : (s : Ahead) (r : RawPhase) → sp_form s ≡ Ok r → LevelsFit r.course.inputs.named r.course.inputs.levels ≡ true
+form_fit : (s : Ahead) (r : RawPhase) → sp_form s ≡ Ok r → LevelsFit r.course.inputs ≡ true
 form_fit s r h =
     let u = past (past (past (past (past s)))) in
     let a = then_ok (address_in s) _ r h in
@@ -92,28 +90,28 @@ form_fit s r h =
     let c = then_ok (course_in u) _ r m.1.1 in
     let e = then_ok (end (past_course u)) _ r c.1.1 in
     let same : c.0 ≡ r.course = (let k = e.1.1 in cc) in
-    subst (λ (d : Course). LevelsFit d.inputs.named d.inputs.levels ≡ true) same (course_fit u c.0 c.1.0)
+    subst (λ (d : Course). LevelsFit d.inputs ≡ true) same (course_fit u c.0 c.1.0)
 
-link_fit : (k : RawLink) (l : Link) → link_value k ≡ Ok l → LinkFits l ≡ true
-unfolding link_value
-link_fit raw.None l h = let same : link.None ≡ l = cc in ap LinkFits (sym same)
-link_fit (raw.Sequence a) l h =
+link_fit : (k : Option (Link Amount)) (l : Option (Link ℕ)) → link_value k ≡ Ok l → LinkFits l ≡ true
+unfolding link_value limited
+link_fit None l h = let same : ◌≡◌ {A = Option (Link ℕ)} None l = cc in ap LinkFits (sym same)
+link_fit (Some (link.Sequence a)) l h =
     let n = then_ok _ _ l h in
     let t = tested _ a.value n.0 _ n.1.0 in
-    let same : link.Sequence a.value ≡ l = ap link.Sequence t.1 ∙ (let k = n.1.1 in cc) in
-    subst (λ (q : Link). LinkFits q ≡ true) same t.0
-link_fit (raw.SubSequence a) l h =
+    let same : ◌≡◌ {A = Option (Link ℕ)} (Some (link.Sequence a.value)) l = ap (λ m. Some (link.Sequence m)) t.1 ∙ (let k = n.1.1 in cc) in
+    subst (λ (q : Option (Link ℕ)). LinkFits q ≡ true) same t.0
+link_fit (Some (link.SubSequence a)) l h =
     let n = then_ok _ _ l h in
     let t = tested _ a.value n.0 _ n.1.0 in
-    let same : link.SubSequence a.value ≡ l = ap link.SubSequence t.1 ∙ (let k = n.1.1 in cc) in
-    subst (λ (q : Link). LinkFits q ≡ true) same t.0
+    let same : ◌≡◌ {A = Option (Link ℕ)} (Some (link.SubSequence a.value)) l = ap (λ m. Some (link.SubSequence m)) t.1 ∙ (let k = n.1.1 in cc) in
+    subst (λ (q : Option (Link ℕ)). LinkFits q ≡ true) same t.0
 
 next_fit : (a : Option Amount) (o : Option ℕ) → next_value a ≡ Ok o → NextFits o ≡ true
 unfolding next_value
 next_fit None o h = let same : ◌≡◌ {A = Option ℕ} None o = cc in ap NextFits (sym same)
 next_fit (Some a) o h = let t = tested _ (Some a.value) o _ h in subst (λ (q : Option ℕ). NextFits q ≡ true) t.1 t.0
 
-record_fit : (m : Motion) (c : Course) (p : Phase) → LevelsFit c.inputs.named c.inputs.levels ≡ true → record_values m c ≡ Ok p → Written p ≡ true
+record_fit : (m : Motion) (c : Course) (p : Phase) → LevelsFit c.inputs ≡ true → record_values m c ≡ Ok p → Written p ≡ true
 unfolding record_values set_point_value
 record_fit m c p w h =
     let z = then_ok (set_point_value m) _ p h in
@@ -122,18 +120,18 @@ record_fit m c p w h =
     let o = then_ok (outputs_value c.outputs) _ p f.1.1 in
     let t = tested _ m.set_point z.0 _ z.1.0 in
     let s : SetPointFits m.nature z.0 ≡ true = ap (SetPointFits m.nature) (sym t.1) ∙ t.0 in
-    let q : Phase = record { written = true; sense = m.sense; nature = m.nature; set_point = z.0; link = l.0; named = c.inputs.named; levels = c.inputs.levels; next = f.0; outputs = o.0 } in
+    let q : Phase = record { written = true; sense = m.sense; nature = m.nature; set_point = z.0; link = l.0; inputs = c.inputs; next = f.0; outputs = o.0 } in
     let same : q ≡ p = (let k = o.1.1 in cc) in
     subst (λ (r : Phase). Written r ≡ true) same (and_from _ _ s (and_from _ _ (link_fit _ _ l.1.0) (and_from _ _ (next_fit _ _ f.1.0) w)))
 
-third : (a b ns np : ℕ) (q p : Phase) → ◌≡◌ {A = Result (ℕ × ℕ × Phase) Fault} (Ok (a, b, q)) (Ok (ns, np, p)) → q ≡ p
-third a b ns np q p h = let same : ◌≡◌ {A = ℕ × ℕ × Phase} (a, b, q) (ns, np, p) = cc in ap (λ (t : ℕ × ℕ × Phase). t.2) same
+second : (a at : Position) (q p : Phase) → ◌≡◌ {A = Result (Position × Phase) Fault} (Ok (a, q)) (Ok (at, p)) → q ≡ p
+second a at q p h = let same : ◌≡◌ {A = Position × Phase} (a, q) (at, p) = cc in ap (λ (t : Position × Phase). t.1) same
 
 pub takes_written : TakesWritten
 unfolding sp_values
-takes_written t ns np p h =
-    let r = then_ok (sp_form (words t, 2)) _ (ns, np, p) h in
-    let a = then_ok (address_values r.0.address) _ (ns, np, p) r.1.1 in
-    let q = then_ok (record_values r.0.motion r.0.course) _ (ns, np, p) a.1.1 in
-    let same : q.0 ≡ p = third a.0.0 a.0.1 ns np q.0 p q.1.1 in
+takes_written t at p h =
+    let r = then_ok (sp_form (words t, 2)) _ (at, p) h in
+    let a = then_ok (address_values r.0.address) _ (at, p) r.1.1 in
+    let q = then_ok (record_values r.0.motion r.0.course) _ (at, p) a.1.1 in
+    let same : q.0 ≡ p = second a.0 at q.0 p q.1.1 in
     subst (λ (s : Phase). Written s ≡ true) same (record_fit r.0.motion r.0.course q.0 (form_fit (words t, 2) r.0 r.1.0) q.1.0)

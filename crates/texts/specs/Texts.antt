@@ -1,7 +1,7 @@
 -- The read-back text of a phase, and the reply that carries it.
-use Rattle.std.specs.Prelude.{ℕ, zero, suc, ◌/◌, ◌%◌, cond, List, [], ◌∷◌, ◌++◌, ℤ, pos, negsuc, Some, None, codes, Option, ◌==◌, unsigned_abs}
+use Rattle.std.specs.Prelude.{ℕ, zero, suc, ◌/◌, ◌%◌, cond, List, [], ◌∷◌, ◌++◌, ℤ, Some, None, codes, Option, ◌==◌}
 use Rattle.words.specs.Words.{spaced}
-use Rattle.replies.specs.Replies.{figures_of, hex_of}
+use Rattle.replies.specs.Replies.{figures_of, signed_of, hex_of}
 use Rattle.phases.specs.declared.phase.Link.{Link}
 use Rattle.phases.specs.declared.phase.Link.TheVariants as link
 use Rattle.phases.specs.declared.phase.Nature.{Nature}
@@ -26,24 +26,21 @@ nature_word PlateauSpeed = codes "NC"
 nature_word PowerOn = codes "NT"
 nature_word PowerOff = codes "NU"
 
--- a plus or a minus
-abbrev pub sign_of : ℤ → ℕ
-sign_of (pos n) = 43
-sign_of (negsuc n) = 45
-
 -- C, a sign and seven figures
 abbrev pub set_point_word : ℤ → List ℕ
-set_point_word z = 67 ∷ sign_of z ∷ figures_of 7 (unsigned_abs z)
+set_point_word z = 67 ∷ signed_of 7 z
 
-abbrev pub link_tag : Link → List ℕ
-link_tag link.None = codes "NL"
-link_tag (link.Sequence n) = codes "NL"
-link_tag (link.SubSequence n) = codes "NQ"
+-- NL or NQ, and NL without a link
+abbrev pub link_tag : Option (Link ℕ) → List ℕ
+link_tag None = codes "NL"
+link_tag (Some (link.Sequence n)) = codes "NL"
+link_tag (Some (link.SubSequence n)) = codes "NQ"
 
-abbrev pub link_word : Link → List ℕ
-link_word link.None = codes "XX"
-link_word (link.Sequence n) = figures_of 2 n
-link_word (link.SubSequence n) = figures_of 2 n
+-- the number of the linked sequence, and XX without a link
+abbrev pub link_word : Option (Link ℕ) → List ℕ
+link_word None = codes "XX"
+link_word (Some (link.Sequence n)) = figures_of 2 n
+link_word (Some (link.SubSequence n)) = figures_of 2 n
 
 -- X where the input is not named, else the wanted level
 abbrev pub mark : ℕ → ℕ → ℕ
@@ -67,7 +64,7 @@ unfoldable pub motion_words : Phase → List (List ℕ)
 motion_words p = sense_word p.sense ∷ nature_word p.nature ∷ set_point_word p.set_point ∷ []
 
 unfoldable pub course_words : Phase → List (List ℕ)
-course_words p = link_tag p.link ∷ link_word p.link ∷ codes "NE" ∷ marks 8 p.named p.levels ∷ codes "NS" ∷ next_word p.next ∷ codes "NO" ∷ outputs_word p.outputs ∷ []
+course_words p = link_tag p.link ∷ link_word p.link ∷ codes "NE" ∷ marks 8 p.inputs.named p.inputs.levels ∷ codes "NS" ∷ next_word p.next ∷ codes "NO" ∷ outputs_word p.outputs ∷ []
 
 abbrev pub phase_words : ℕ → ℕ → Phase → List (List ℕ)
 phase_words ns np p = figures_of 2 ns ∷ figures_of 2 np ∷ (motion_words p ++ course_words p)

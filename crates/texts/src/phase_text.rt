@@ -3,11 +3,11 @@ ghost use Rattle.std.specs.Prelude.{◌≡◌, ◌+◌, ◌≤◌, [], ◌∷◌
 ghost use Rattle.words.specs.Words.{spaced};
 ghost use Rattle.replies.specs.Replies.{Room, Wrote, answered};
 ghost use Rattle.texts.specs.ReadBack.{ByteOrNone, Bytes, TakenBack};
-ghost use Rattle.texts.specs.Texts.{sense_word, nature_word, sign_of, link_tag, link_word, mark as mark_of, marks, next_word, outputs_word, motion_words, course_words, phase_text, rs_found, rs_text};
+ghost use Rattle.texts.specs.Texts.{sense_word, nature_word, link_tag, link_word, mark as mark_of, marks, next_word, outputs_word, motion_words, course_words, phase_text, rs_found, rs_text};
 
 use faults::Fault;
-use phases::{Link, Nature, Phase};
-use replies::Reply;
+use phases::{Inputs, Link, Nature, Phase, Position};
+use replies::{Reply, check_room};
 use senses::Sense;
 
 fn sense_letters(sense: Sense) -> [u8; 2]
@@ -35,13 +35,6 @@ fn nature_letters(nature: Nature) -> [u8; 2]
     }
 }
 
-// The sign of a set point.
-fn sign(set_point: i32) -> u8
-    ensures { result ≡ sign_of set_point }
-{
-    if set_point < 0 { b'-' } else { b'+' }
-}
-
 // X where the input is not named, else the wanted level.
 fn mark(named: u8, level: u8) -> u8
     ensures { result ≡ mark_of named level }
@@ -55,15 +48,21 @@ fn mark(named: u8, level: u8) -> u8
     }
 }
 
-// Writes a mark for each of `width` inputs.
-fn write_marks(reply: &mut Reply, named: u8, levels: u8, width: usize)
+// Writes a mark for each of the first `width` inputs.
+fn write_marks(reply: &mut Reply, inputs: Inputs, width: usize)
     requires { Room reply.old width }
-    ensures wrote { Wrote reply.old reply.new (marks width named levels) }
+    ensures byte { inputs.named ≤ 255 }
+    ensures wrote { Wrote reply.old reply.new (marks width inputs.named inputs.levels) }
     ensures len { reply.new.len ≡ reply.old.len + width }
 {
     if width > 0 {
+        let Inputs { named, levels } = inputs;
         reply.put(mark(named % 2, levels % 2));
-        write_marks(reply, named / 2, levels / 2, width - 1);
+        let others = Inputs {
+            named: named / 2,
+            levels: levels / 2,
+        };
+        write_marks(reply, others, width - 1);
     }
 }
 
@@ -93,18 +92,18 @@ fn write_outputs(reply: &mut Reply, outputs: Option<u8>)
 }
 
 // Writes a link with its tag, NL XX for none.
-fn write_link(reply: &mut Reply, link: Link)
+fn write_link(reply: &mut Reply, link: Option<Link<u8>>)
     requires { Room reply.old 5 }
     ensures wrote { Wrote reply.old reply.new (spaced (link_tag link ∷ link_word link ∷ [])) }
     ensures len { reply.new.len ≡ reply.old.len + 5 }
 {
     match link {
-        Link::None => reply.text(b"NL XX"),
-        Link::Sequence(number) => {
+        None => reply.text(b"NL XX"),
+        Some(Link::Sequence(number)) => {
             reply.text(b"NL ");
             reply.figures(u32::from(number), 2);
         }
-        Link::SubSequence(number) => {
+        Some(Link::SubSequence(number)) => {
             reply.text(b"NQ ");
             reply.figures(u32::from(number), 2);
         }
@@ -121,8 +120,7 @@ fn write_motion(p: &Phase, reply: &mut Reply)
     reply.text(b" ");
     reply.text(&nature_letters(p.nature));
     reply.text(b" C");
-    reply.put(sign(p.set_point));
-    reply.figures(p.set_point.unsigned_abs(), 7);
+    reply.signed(p.set_point, 7);
 }
 
 // Writes how the run goes on.
@@ -134,23 +132,23 @@ fn write_course(p: &Phase, reply: &mut Reply)
 {
     write_link(reply, p.link);
     reply.text(b" NE ");
-    write_marks(reply, p.named, p.levels, 8);
+    write_marks(reply, p.inputs, 8);
     reply.text(b" NS ");
     write_next(reply, p.next);
     reply.text(b" NO ");
     write_outputs(reply, p.outputs);
 }
 
-// Writes the text of phase `np` of the sequence `ns`.
-fn write_phase(p: &Phase, reply: &mut Reply, ns: u8, np: u8)
+// Writes the text of a phase and its position.
+fn write_phase(p: &Phase, reply: &mut Reply, at: Position)
     requires { Room reply.old 51 }
     ensures bytes { Bytes p.now }
-    ensures wrote { Wrote reply.old reply.new (phase_text ns np p.now) }
+    ensures wrote { Wrote reply.old reply.new (phase_text at.sequence at.phase p.now) }
     ensures len { reply.new.len ≡ reply.old.len + 51 }
 {
-    reply.figures(u32::from(ns), 2);
+    reply.figures(u32::from(at.sequence), 2);
     reply.text(b" ");
-    reply.figures(u32::from(np), 2);
+    reply.figures(u32::from(at.phase), 2);
     reply.text(b" ");
     write_motion(p, reply);
     reply.text(b" ");
@@ -159,42 +157,30 @@ fn write_phase(p: &Phase, reply: &mut Reply, ns: u8, np: u8)
 
 // Writes the phase that is found, or X where it is unwritten.
 #[tactic(auto, using(crate::proofs::Found::found_text, crate::proofs::Found::unfound_text, crate::proofs::Found::unfound_back, crate::proofs::ReadBack::reads_back))]
-fn write_found(p: &Phase, reply: &mut Reply, ns: u8, np: u8)
+fn write_found(p: &Phase, reply: &mut Reply, at: Position)
     requires { Room reply.old 51 }
-    ensures back { TakenBack ns np p.now }
-    ensures wrote { Wrote reply.old reply.new (rs_found ns np p.now) }
+    ensures back { TakenBack at p.now }
+    ensures wrote { Wrote reply.old reply.new (rs_found at.sequence at.phase p.now) }
     ensures len { reply.new.len ≤ reply.old.len + 51 }
 {
     if p.is_written() {
-        write_phase(p, reply, ns, np);
+        write_phase(p, reply, at);
     } else {
         reply.text(b"X");
     }
 }
 
-// Writes the answer to RS.
-fn write_reply(p: &Phase, reply: &mut Reply, address: u8, ns: u8, np: u8)
-    requires { Room reply.old 58 }
-    ensures back { TakenBack ns np p.now }
-    ensures wrote { Wrote reply.old reply.new (rs_text address ns np p.now) }
-    ensures len { reply.new.len ≤ reply.old.len + 58 }
+// Answers RS at the module's address with this record, the phase at that position.
+pub fn answer_rs(p: &Phase, out: &mut [u8], address: u8, at: Position) -> Result<usize, Fault>
+    ensures back { OnOk result (TakenBack at p.now) }
+    ensures length { IfOk result (λ n. n ≤ 58) }
+    ensures answer { (result, out.new) ≡ answered (rs_text address at.sequence at.phase p.now) out.old }
 {
+    check_room(out)?;
+    let mut reply = Reply::new(out);
     reply.figures(u32::from(address), 2);
     reply.text(b"ES ");
-    write_found(p, reply, ns, np);
+    write_found(p, &mut reply, at);
     reply.text(b"\r\x11");
-}
-
-// Answers RS at the module's address with this record, phase `np` of the sequence `ns`.
-pub fn answer_rs(p: &Phase, out: &mut [u8], address: u8, ns: u8, np: u8) -> Result<usize, Fault>
-    ensures back { OnOk result (TakenBack ns np p.now) }
-    ensures length { IfOk result (λ n. n ≤ 58) }
-    ensures answer { (result, out.new) ≡ answered (rs_text address ns np p.now) out.old }
-{
-    if out.len() < 80 {
-        return Err(Fault::short_reply());
-    }
-    let mut reply = Reply { out, len: 0 };
-    write_reply(p, &mut reply, address, ns, np);
     Ok(reply.len)
 }

@@ -3,21 +3,11 @@
 
 mod request;
 
+use programs::{Failed, Program};
 use request::{Request, read_request};
 use scripts::{Transcript, transcribe};
-use std::io::{Read, Write};
+use std::io::Write;
 use std::process::ExitCode;
-use std::{env, fs, io};
-
-// The program ends with status 1; what went wrong has been printed.
-#[derive(Drop)]
-struct Failed;
-
-impl From<io::Error> for Failed {
-    fn from(_: io::Error) -> Failed {
-        Failed
-    }
-}
 
 const USAGE: &str = "usage: transcript [FILE ..]
 
@@ -40,94 +30,48 @@ line was understood, else 1.
     state         tells the module's state
     # ..          a comment";
 
-// The bytes of a file, or of standard input for -.
-fn read_bytes(rt: &HostRuntime, file: &str) -> io::Result<Vec<u8>> {
-    if file != "-" {
-        return fs::read(rt, file);
-    }
-    let mut bytes = Vec::new(rt.alloc());
-    rt.stdin().read_to_end(&mut bytes)?;
-    Ok(bytes)
-}
-
-// How a file is called in what is printed.
-fn name_of(file: &str) -> &str {
-    if file == "-" { "standard input" } else { file }
-}
-
 // Prints the transcript of a script's bytes.
-fn print_transcript(rt: &HostRuntime, name: &str, bytes: &[u8]) -> Result<(), Failed> {
+fn print_transcript(program: &Program, name: &str, bytes: &[u8]) -> Result<(), Failed> {
+    let rt = program.rt;
     let mut transcript = Transcript::new(rt.alloc());
     let result = transcribe(rt.alloc(), bytes, &mut transcript);
     if let Err(error) = rt.stdout().write_all(transcript.bytes()) {
-        eprintln!(rt; "transcript: standard output: {error}")?;
-        return Err(Failed);
+        return program.fail(format_args!("standard output: {error}"));
     }
     match result {
         Ok(()) => Ok(()),
-        Err(trouble) => {
-            eprintln!(rt; "transcript: {name}: {trouble}")?;
-            Err(Failed)
-        }
+        Err(trouble) => program.fail(format_args!("{name}: {trouble}")),
     }
 }
 
 // Plays the script of a file.
-fn play_file(rt: &HostRuntime, file: &str) -> Result<(), Failed> {
-    match read_bytes(rt, file) {
-        Ok(bytes) => print_transcript(rt, name_of(file), bytes.as_slice()),
-        Err(error) => {
-            eprintln!(rt; "transcript: {file}: {error}")?;
-            Err(Failed)
-        }
-    }
+fn play_file(program: &Program, file: &str) -> Result<(), Failed> {
+    program.with_file(file, |name, bytes| print_transcript(program, name, bytes))
 }
 
 // Plays every file, and fails if one of them did.
-fn play_files(rt: &HostRuntime, files: &[String]) -> Result<(), Failed> {
-    let mut failed = false;
-    for file in files {
-        failed = play_file(rt, file.as_str()).is_err() || failed;
-    }
-    if failed { Err(Failed) } else { Ok(()) }
-}
-
-// The arguments behind the program's name.
-fn arguments(rt: &HostRuntime) -> io::Result<Vec<String>> {
-    Ok(env::args(rt)?.skip(1).collect(rt.alloc())?)
+fn play_files(program: &Program, files: &[String]) -> Result<(), Failed> {
+    files.iter().fold(
+        Ok(()),
+        |played, file| play_file(program, file.as_str()).and(played),
+    )
 }
 
 // Does what the arguments ask for.
-fn follow(rt: &HostRuntime, words: &[String]) -> Result<(), Failed> {
+fn follow(program: &Program, words: &[String]) -> Result<(), Failed> {
     match read_request(words) {
-        Ok(Request::Usage) => {
-            println!(rt; "{USAGE}")?;
-            Ok(())
-        }
-        Ok(Request::Input) => play_file(rt, "-"),
-        Ok(Request::Files(files)) => play_files(rt, files),
-        Err(wrong) => {
-            eprintln!(rt; "transcript: {wrong}")?;
-            eprintln!(rt; "usage: transcript [FILE ..]")?;
-            Err(Failed)
-        }
-    }
-}
-
-// Does what the arguments ask for, once they are read.
-fn start(rt: &HostRuntime) -> Result<(), Failed> {
-    match arguments(rt) {
-        Ok(words) => follow(rt, words.as_slice()),
-        Err(error) => {
-            eprintln!(rt; "transcript: the arguments cannot be read: {error}")?;
-            Err(Failed)
-        }
+        Ok(Request::Usage) => Ok(println!(program.rt; "{USAGE}")?),
+        Ok(Request::Input) => play_file(program, "-"),
+        Ok(Request::Files(files)) => play_files(program, files),
+        Err(wrong) => program.refuse(wrong),
     }
 }
 
 fn main(rt: HostRuntime) -> ExitCode {
-    match start(&rt) {
-        Ok(()) => ExitCode::SUCCESS,
-        Err(Failed) => ExitCode::FAILURE,
-    }
+    let program = Program {
+        rt: &rt,
+        name: "transcript",
+        usage: USAGE,
+    };
+    program.run(|words| follow(&program, words))
 }

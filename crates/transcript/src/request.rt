@@ -1,4 +1,5 @@
 // What the arguments of the program ask for.
+use programs::is_option;
 use std::fmt;
 
 #[derive(Clone, Copy)]
@@ -21,17 +22,14 @@ impl fmt::Display for WrongUse<'_> {
 
 // Reads the arguments behind the program's name.
 pub(crate) fn read_request(words: &[String]) -> Result<Request<'_>, WrongUse<'_>> {
-    if words.is_empty() {
-        return Ok(Request::Input);
+    match words
+        .iter()
+        .map(String::as_str)
+        .find(|word| is_option(word))
+    {
+        Some("--help") => Ok(Request::Usage),
+        Some(option) => Err(WrongUse(option)),
+        None if words.is_empty() => Ok(Request::Input),
+        None => Ok(Request::Files(words)),
     }
-    for word in words {
-        let word = word.as_str();
-        if word == "--help" {
-            return Ok(Request::Usage);
-        }
-        if word != "-" && word.as_bytes().starts_with(b"-") {
-            return Err(WrongUse(word));
-        }
-    }
-    Ok(Request::Files(words))
 }

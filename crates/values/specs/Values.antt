@@ -1,26 +1,33 @@
 -- The limits of the values that the words of the store's commands give. The leftmost word past its limit is at fault.
-use Rattle.std.specs.Prelude.{ℕ, true, cond, ◌&&◌, ℤ, Some, None, Ok, Err, Option, Result, nat_le}
+use Rattle.std.specs.Prelude.{◌≡◌, ℕ, true, cond, ◌&&◌, ℤ, Some, None, Ok, Err, Option, Result, nat_le}
 use Rattle.faults.specs.declared.Fault.{Fault}
 use Rattle.faults.specs.Faults.{and_then, past_limit, no_such_phase}
 use Rattle.phases.specs.declared.phase.Link.{Link}
 use Rattle.phases.specs.declared.phase.Link.TheVariants as link
 use Rattle.phases.specs.declared.phase.Phase.{Phase}
+use Rattle.phases.specs.declared.phase.Position.{Position}
 use Rattle.fields.specs.declared.fields.Address.{Address}
 use Rattle.fields.specs.declared.fields.Amount.{Amount}
 use Rattle.fields.specs.declared.fields.Course.{Course}
 use Rattle.fields.specs.declared.fields.Motion.{Motion}
-use Rattle.fields.specs.declared.fields.RawLink.{RawLink}
-use Rattle.fields.specs.declared.fields.RawLink.TheVariants as raw
 use Rattle.fields.specs.declared.fields.RawPhase.{RawPhase}
 use Rattle.phases.specs.Phases.{SetPointFits, NextFits}
 
+-- each result that a conversion of n gives is this value
+abbrev pub Becomes : {N T E : Type 0} → (N → Result T E → Type 0) → N → T → Type 0
+Becomes gives n value = (r : _) → gives n r → r ≡ Ok value
+
+-- what a number from low to high stands for
+unfoldable pub limited : {T : Type 0} → (ℕ → T) → ℕ → ℕ → Fault → ℕ → Result T Fault
+limited value low high f n = cond (nat_le low n && nat_le n high) (Ok (value n)) (Err f)
+
 -- a number from low to high
 abbrev pub within : ℕ → ℕ → Fault → ℕ → Result ℕ Fault
-within low high f n = cond (nat_le low n && nat_le n high) (Ok n) (Err f)
+within low high f n = limited (λ m. m) low high f n
 
 -- words 2 and 3: the sequence, and the phase or how many phases
-unfoldable pub address_values : Address → Result (ℕ × ℕ) Fault
-address_values a = and_then (within 1 99 (past_limit 2) a.sequence) (λ s. and_then (within 1 50 (no_such_phase 3) a.phase) (λ p. Ok (s, p)))
+unfoldable pub address_values : Address → Result Position Fault
+address_values a = and_then (within 1 99 (past_limit 2) a.sequence) (λ s. and_then (within 1 50 (no_such_phase 3) a.phase) (λ p. Ok (record { sequence = s; phase = p })))
 
 -- word 2: a sequence to erase, 0 for all of them
 abbrev pub erase_value : ℕ → Result ℕ Fault
@@ -30,10 +37,10 @@ erase_value n = within 0 99 (past_limit 2) n
 unfoldable pub set_point_value : Motion → Result ℤ Fault
 set_point_value m = cond (SetPointFits m.nature m.set_point) (Ok m.set_point) (Err (past_limit 6))
 
-unfoldable pub link_value : RawLink → Result Link Fault
-link_value raw.None = Ok link.None
-link_value (raw.Sequence a) = and_then (within 1 99 (past_limit a.at) a.value) (λ n. Ok (link.Sequence n))
-link_value (raw.SubSequence a) = and_then (within 1 99 (past_limit a.at) a.value) (λ n. Ok (link.SubSequence n))
+unfoldable pub link_value : Option (Link Amount) → Result (Option (Link ℕ)) Fault
+link_value None = Ok None
+link_value (Some (link.Sequence a)) = and_then (within 1 99 (past_limit a.at) a.value) (λ n. Ok (Some (link.Sequence n)))
+link_value (Some (link.SubSequence a)) = and_then (within 1 99 (past_limit a.at) a.value) (λ n. Ok (Some (link.SubSequence n)))
 
 unfoldable pub next_value : Option Amount → Result (Option ℕ) Fault
 next_value None = Ok None
@@ -49,8 +56,8 @@ record_values m c =
     and_then (link_value c.link) (λ l.
     and_then (next_value c.next) (λ f.
     and_then (outputs_value c.outputs) (λ o.
-    Ok (record { written = true; sense = m.sense; nature = m.nature; set_point = z; link = l; named = c.inputs.named; levels = c.inputs.levels; next = f; outputs = o })))))
+    Ok (record { written = true; sense = m.sense; nature = m.nature; set_point = z; link = l; inputs = c.inputs; next = f; outputs = o })))))
 
--- the sequence, the phase and its record
-unfoldable pub sp_values : RawPhase → Result (ℕ × ℕ × Phase) Fault
-sp_values p = and_then (address_values p.address) (λ a. and_then (record_values p.motion p.course) (λ r. Ok (a.0, a.1, r)))
+-- the position of the phase and its record
+unfoldable pub sp_values : RawPhase → Result (Position × Phase) Fault
+sp_values p = and_then (address_values p.address) (λ a. and_then (record_values p.motion p.course) (λ r. Ok (a, r)))

@@ -1,31 +1,36 @@
 // The limits of the values that the words of the store's commands give.
 #![tactic(auto)]
 
-ghost use Rattle.std.specs.Prelude.{◌≡◌};
-ghost use Rattle.values.specs.Values.{within as within_of, address_values, erase_value, set_point_value, link_value, next_value, outputs_value, record_values, sp_values};
+ghost use Rattle.std.specs.Prelude.{◌≡◌, ◌≤◌, ℕ};
+ghost use Rattle.values.specs.Values.{Becomes, limited, within as within_of, address_values, erase_value, set_point_value, link_value, next_value, outputs_value, record_values, sp_values};
+ghost use Rattle.faults.specs.Faults.{past_limit};
 
 use faults::Fault;
-use fields::{Address, Amount, Course, Motion, RawLink, RawPhase};
-use phases::{Link, Phase, next_fits};
+use fields::{Address, Amount, Course, Motion, RawPhase};
+use phases::{Link, Phase, Position, next_fits};
 
-// The number, or the fault where it is not from `low` to `high`.
-fn within(low: u8, high: u8, fault: Fault, n: u64) -> Result<u8, Fault>
-    ensures { result ≡ within_of low high fault n }
+// The number as a value of the type, or the fault where it is not from `low` to `high`.
+#[tactic(auto, unfolding(crate::specs::Values::limited))]
+pub fn within<T: TryFrom<u64>>(low: u64, high: u64, fault: Fault, n: u64) -> Result<T, Fault>
+where
+    T::Error: Drop,
+    ensures { (value : ℕ → T) → ((m : ℕ) → m ≤ high → Becomes T.try_from_gives m (value m)) → result ≡ limited value low high fault n }
 {
-    if u64::from(low) <= n && n <= u64::from(high) {
-        Ok(n as u8)
+    if low <= n && n <= high {
+        T::try_from(n).map_err(|_| fault)
     } else {
         Err(fault)
     }
 }
 
 // A sequence's number and a phase's, or how many it reserves, within their limits.
-pub fn address_values(address: Address) -> Result<(u8, u8), Fault>
+#[tactic(auto, unfolding(crate::specs::Values::address_values))]
+pub fn address_values(address: Address) -> Result<Position, Fault>
     ensures { result ≡ address_values address }
 {
     let sequence = within(1, 99, Fault::past_limit(2), address.sequence)?;
     let phase = within(1, 50, Fault::no_such_phase(3), address.phase)?;
-    Ok((sequence, phase))
+    Ok(Position { sequence, phase })
 }
 
 // The number of a sequence to erase, 0 for all of them.
@@ -36,44 +41,50 @@ pub fn erase_value(n: u64) -> Result<u8, Fault>
 }
 
 // The set point within the limits of the nature.
+#[tactic(auto, using(phases::proofs::Limits::set_point_fits32), unfolding(crate::specs::Values::set_point_value))]
 fn set_point_value(motion: Motion) -> Result<i32, Fault>
     ensures { result ≡ set_point_value motion }
 {
     if motion.nature.takes(motion.set_point) {
+        // The limits of every nature lie within an i32, so that the cast loses nothing.
         Ok(motion.set_point as i32)
     } else {
         Err(Fault::past_limit(6))
     }
 }
 
-fn link_value(link: RawLink) -> Result<Link, Fault>
+// The number of a word, from `low` to `high`.
+fn amount_value(low: u8, high: u8, n: Amount) -> Result<u8, Fault>
+    ensures { result ≡ within_of low high (past_limit n.at) n.value }
+{
+    within(
+        u64::from(low),
+        u64::from(high),
+        Fault::past_limit(n.at),
+        n.value,
+    )
+}
+
+#[tactic(auto, unfolding(crate::specs::Values::link_value))]
+fn link_value(link: Option<Link<Amount>>) -> Result<Option<Link<u8>>, Fault>
     ensures { result ≡ link_value link }
 {
     match link {
-        RawLink::None => Ok(Link::None),
-        RawLink::Sequence(n) => Ok(Link::Sequence(within(
-            1,
-            99,
-            Fault::past_limit(n.at),
-            n.value,
-        )?)),
-        RawLink::SubSequence(n) => Ok(Link::SubSequence(within(
-            1,
-            99,
-            Fault::past_limit(n.at),
-            n.value,
-        )?)),
+        Some(Link::Sequence(n)) => Ok(Some(Link::Sequence(amount_value(1, 99, n)?))),
+        Some(Link::SubSequence(n)) => Ok(Some(Link::SubSequence(amount_value(1, 99, n)?))),
+        None => Ok(None),
     }
 }
 
 // The phase to go on with, 54 being the stop.
+#[tactic(auto, unfolding(crate::specs::Values::next_value, crate::specs::Values::limited))]
 fn next_value(next: Option<Amount>) -> Result<Option<u8>, Fault>
     ensures { result ≡ next_value next }
 {
     let Some(n) = next else {
         return Ok(None);
     };
-    let np = within(1, 54, Fault::past_limit(n.at), n.value)?;
+    let np = amount_value(1, 54, n)?;
     if next_fits(Some(np)) {
         Ok(Some(np))
     } else {
@@ -81,16 +92,15 @@ fn next_value(next: Option<Amount>) -> Result<Option<u8>, Fault>
     }
 }
 
+#[tactic(auto, unfolding(crate::specs::Values::outputs_value))]
 fn outputs_value(outputs: Option<Amount>) -> Result<Option<u8>, Fault>
     ensures { result ≡ outputs_value outputs }
 {
-    let Some(n) = outputs else {
-        return Ok(None);
-    };
-    Ok(Some(within(0, 255, Fault::past_limit(n.at), n.value)?))
+    outputs.map(|n| amount_value(0, 255, n)).transpose()
 }
 
 // The record of a phase, its fields within their limits.
+#[tactic(auto, unfolding(crate::specs::Values::record_values))]
 fn record_values(motion: Motion, course: Course) -> Result<Phase, Fault>
     ensures { result ≡ record_values motion course }
 {
@@ -104,18 +114,18 @@ fn record_values(motion: Motion, course: Course) -> Result<Phase, Fault>
         nature: motion.nature,
         set_point,
         link,
-        named: course.inputs.named,
-        levels: course.inputs.levels,
+        inputs: course.inputs,
         next,
         outputs,
     })
 }
 
-// The sequence, the phase and its record, where each value lies within its limits.
-pub fn sp_values(raw: RawPhase) -> Result<(u8, u8, Phase), Fault>
+// The position of a phase and its record, where each value lies within its limits.
+#[tactic(auto, unfolding(crate::specs::Values::sp_values))]
+pub fn sp_values(raw: RawPhase) -> Result<(Position, Phase), Fault>
     ensures { result ≡ sp_values raw }
 {
-    let (sequence, phase) = address_values(raw.address)?;
+    let at = address_values(raw.address)?;
     let record = record_values(raw.motion, raw.course)?;
-    Ok((sequence, phase, record))
+    Ok((at, record))
 }

@@ -1,11 +1,17 @@
 -- What a reader has ahead of it.
-use Rattle.std.specs.Prelude.{ℕ, cond, List, []}
+use Rattle.std.specs.Prelude.{ℕ, List, [], Some, None, Option}
+use Rattle.std.specs.Borrow.{Bor}
 use Rattle.words.specs.declared.reader.Reader.{Reader}
 use Rattle.words.specs.Words.{words, Ahead}
 
+-- the words of what is left of a line; None is left behind the last word
+abbrev pub left_in : Option (Bor (List ℕ)) → List (List ℕ)
+left_in None = []
+left_in (Some rest) = words rest.now
+
 -- the words that it has not read yet
 abbrev pub left : Reader → List (List ℕ)
-left r = cond r.ended [] (words r.rest.now)
+left r = left_in r.rest
 
 -- these words, and the number of the first of them
 abbrev pub ahead : Reader → Ahead

@@ -1,70 +1,32 @@
 -- What the words of a line say. A word is `None` where it is missing.
-use Rattle.std.specs.Prelude.{◌≡◌, ℕ, List, ℤ, Some, None, Ok, Err, Option, Result}
+use Rattle.std.specs.Prelude.{◌≡◌, ℕ, List, ℤ, Some, None, Ok, Err, Option, Result, cond}
 use Rattle.std.specs.Borrow.{Bor}
 use Rattle.std.specs.Option.{ok_or}
 use Rattle.faults.specs.declared.Fault.{Fault}
-use Rattle.words.specs.declared.reader.Placed.{Placed}
-use Rattle.words.specs.declared.reader.Word.{Word}
-use Rattle.words.specs.declared.reader.Word.TheVariants.{Command, Number, Hexadecimal, Marks, Tag}
+use Rattle.words.specs.declared.word.Placed.{Placed}
+use Rattle.words.specs.declared.word.Word.{Word}
 use Rattle.faults.specs.Faults.{and_then, wrong_form}
 use Rattle.words.specs.Words.{Ahead, upcoming, past}
 use Rattle.words.specs.Numbers.{value_of, signed_of}
+use Rattle.words.specs.Tags.{is_tag}
 
--- the characters of a word of one sort, and none of the others
-abbrev pub command_text : Word → Option (List ℕ)
-command_text (Command t) = Some t.now
-command_text (Number t) = None
-command_text (Hexadecimal t) = None
-command_text (Marks t) = None
-command_text (Tag t) = None
+-- the next word with its number, made a word of one sort
+abbrev pub TakenAs : (Bor (List ℕ) → Word → Type 0) → Ahead → Option Placed → Type 0
+TakenAs sort s None = upcoming s ≡ None
+TakenAs sort s (Some p) = (t : Bor (List ℕ)) × (upcoming s ≡ Some t.now) × sort t p.word × (p.at ≡ s.1)
 
-abbrev pub number_text : Word → Option (List ℕ)
-number_text (Command t) = None
-number_text (Number t) = Some t.now
-number_text (Hexadecimal t) = None
-number_text (Marks t) = None
-number_text (Tag t) = None
-
-abbrev pub hexadecimal_text : Word → Option (List ℕ)
-hexadecimal_text (Command t) = None
-hexadecimal_text (Number t) = None
-hexadecimal_text (Hexadecimal t) = Some t.now
-hexadecimal_text (Marks t) = None
-hexadecimal_text (Tag t) = None
-
-abbrev pub marks_text : Word → Option (List ℕ)
-marks_text (Command t) = None
-marks_text (Number t) = None
-marks_text (Hexadecimal t) = None
-marks_text (Marks t) = Some t.now
-marks_text (Tag t) = None
-
-abbrev pub tag_text : Word → Option (List ℕ)
-tag_text (Command t) = None
-tag_text (Number t) = None
-tag_text (Hexadecimal t) = None
-tag_text (Marks t) = None
-tag_text (Tag t) = Some t.now
-
--- the characters of a word that may be missing
-abbrev pub text_of : (Word → Option (List ℕ)) → Option Word → Option (List ℕ)
-text_of text None = None
-text_of text (Some w) = text w
-
--- the next word with its number; one that is missing is at fault
-abbrev pub NextIs : Ahead → Result (Bor (List ℕ) × ℕ) Fault → Type 0
-NextIs s (Ok p) = (Some p.0.now ≡ upcoming s) × (p.1 ≡ s.1)
-NextIs s (Err f) = (upcoming s ≡ None) × (f ≡ wrong_form s.1)
-
--- the next word, taken for a word of one sort
-abbrev pub NextAs : (Word → Option (List ℕ)) → Ahead → Result Placed Fault → Type 0
-NextAs text s (Ok p) = (text p.word ≡ upcoming s) × (p.at ≡ s.1)
-NextAs text s (Err f) = (upcoming s ≡ None) × (f ≡ wrong_form s.1)
+-- a reading of a word of one sort, which has the number i, follows a rule of its characters
+abbrev pub Follows : {A : Type 0} → (Bor (List ℕ) → Word → Type 0) → (Placed → Option A → Type 0) → ℕ → (List ℕ → Option A) → Type 0
+Follows sort reading i rule = (t : Bor (List ℕ)) (p : Placed) (o : _) → sort t p.word → p.at ≡ i → reading p o → o ≡ rule t.now
 
 -- word i by a rule, at fault where it is missing or the rule refuses it
 abbrev pub by : {A : Type 0} → (List ℕ → Option A) → Option (List ℕ) → ℕ → Result A Fault
 by rule None i = Err (wrong_form i)
 by rule (Some w) i = ok_or (rule w) (wrong_form i)
+
+-- the word behind a field's tag by a rule, or `absent` where the tag does not stand there
+abbrev pub field_by : {A : Type 0} → List ℕ → (List ℕ → Option A) → A → Ahead → Result A Fault
+field_by tag rule absent s = cond (is_tag tag (upcoming s)) (by rule (upcoming (past s)) (past s).1) (Ok absent)
 
 -- no word follows
 abbrev pub end_at : Option (List ℕ) → ℕ → Result (Unit {0}) Fault

@@ -3,6 +3,8 @@
 
 mod numbers;
 mod reader;
+mod word;
 
 pub use numbers::{decimal_value, hexadecimal_value, is, signed_value};
-pub use reader::{Placed, Reader, Word};
+pub use reader::{Reader, cut};
+pub use word::{Placed, Word};

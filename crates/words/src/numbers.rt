@@ -3,14 +3,14 @@ ghost use Rattle.std.specs.Prelude.{◌≡◌, ◌^◌, ◌<◌, ◌≤◌, IfSo
 ghost use Rattle.std.specs.Str.{bytes_eq};
 ghost use Rattle.words.specs.Numbers.{is_figure, figure_value, value_of, is_minus, unsigned_part, signed_of};
 
-// Whether a word is the given one.
+// Whether a word is the given one, where no pattern can name it: the tag of a field, a name on the shelf.
 pub fn is(text: &[u8], name: &[u8]) -> bool
     ensures { result ≡ bytes_eq text.now name.now }
 {
     text == name
 }
 
-// What a figure counts in a base.
+// What a figure counts in a base. `char::to_digit` would take small letters too.
 fn figure(c: u8, base: u8) -> Option<u8>
     requires { base ≤ 16 }
     ensures { result ≡ (if is_figure base c then Some (figure_value c) else None) }
@@ -57,17 +57,16 @@ pub fn hexadecimal_value(text: &[u8]) -> Option<u64>
 fn is_minus(text: &[u8]) -> bool
     ensures { result ≡ is_minus text.now }
 {
-    text.len() > 0 && text[0] == b'-'
+    matches!(text, [b'-', ..])
 }
 
 // What follows a number's sign.
 fn unsigned_part(text: &[u8]) -> &[u8]
     ensures { result.now ≡ unsigned_part text.now }
 {
-    if text.len() > 0 && (text[0] == b'-' || text[0] == b'+') {
-        &text[1..]
-    } else {
-        text
+    match text {
+        [b'-' | b'+', figures @ ..] => figures,
+        _ => text,
     }
 }
 
@@ -75,6 +74,7 @@ fn unsigned_part(text: &[u8]) -> &[u8]
 pub fn signed_value(text: &[u8]) -> Option<i64>
     ensures { result ≡ signed_of text.now }
 {
+    // Ten figures lie within an i64, so that the cast loses nothing.
     let n = value(unsigned_part(text), 10, 10)? as i64;
     Some(if is_minus(text) { -n } else { n })
 }

@@ -1,50 +1,32 @@
 // The reader of a line's words.
-ghost use Rattle.std.specs.Prelude.{◌≡◌, ◌≤◌, length, if◌then◌else◌};
+ghost use Rattle.std.specs.Prelude.{◌≡◌, ℕ, List, ◌∷◌, Option, if◌then◌else◌};
 ghost use Rattle.std.specs.Option.{option_map};
-ghost use Rattle.words.specs.Words.{word_len, words, upcoming, past};
-ghost use Rattle.words.specs.Left.{ahead};
-ghost use Rattle.words.specs.Numbers.{value_of, signed_of};
-ghost use Rattle.words.specs.Tags.{is_tag};
-ghost use Rattle.words.specs.Readings.{text_of, command_text, number_text, hexadecimal_text, marks_text, tag_text, NextAs, NextIs, by, unsigned as unsigned_in, signed as signed_in, hexadecimal as hexadecimal_in, end as end_in, only_unsigned, only_signed, only_hexadecimal, two_unsigned};
+ghost use Rattle.words.specs.Words.{words, upcoming, past};
+ghost use Rattle.words.specs.Left.{left_in, ahead};
+ghost use Rattle.words.specs.Sorts.{command_text, text_of};
+ghost use Rattle.words.specs.Tags.{is_tag, past_field};
+ghost use Rattle.words.specs.Readings.{TakenAs, Follows, by, field_by, only, unsigned as unsigned_in, end as end_in, only_unsigned, only_signed, only_hexadecimal, two_unsigned};
 
-use crate::numbers::{decimal_value, hexadecimal_value, is, signed_value};
+use crate::numbers::is;
+use crate::word::{Placed, Word};
 use faults::Fault;
 
-// Goes through the words of a line. `next` is the number of the next word.
+// Goes through the words of a line: what is left of it, None behind the last word, and the number of the next word.
+// Each method says what is left behind it: that is a fact of the call, which no invariant of the reader could say.
 #[derive(Drop)]
 pub struct Reader<'a> {
-    rest: &'a [u8],
-    ended: bool,
+    rest: Option<&'a [u8]>,
     next: u8,
 }
 
-// A word is a part of the line, taken for one of these.
-#[derive(Clone, Copy)]
-pub enum Word<'a> {
-    Command(&'a [u8]),
-    Number(&'a [u8]),
-    Hexadecimal(&'a [u8]),
-    Marks(&'a [u8]),
-    Tag(&'a [u8]),
-}
-
-// A word with its number in the line.
-#[derive(Clone, Copy)]
-pub struct Placed<'a> {
-    pub word: Word<'a>,
-    pub at: u8,
-}
-
-// How long the word at the front of `s` is.
-fn word_len(s: &[u8]) -> usize
-    ensures within { result ≤ length s.now }
-    ensures value { result ≡ word_len s.now }
+// The first word of a line, and what is left behind the space after it; none where there is no space.
+pub fn cut(line: &[u8]) -> (&[u8], Option<&[u8]>)
+    ensures { words line.now ≡ result.0.now ∷ left_in result.1 }
 {
-    let mut n = 0;
-    while n < s.len() && s[n] != b' ' {
-        n += 1;
+    match line.iter().position(|c| *c == b' ') {
+        Some(n) => (&line[..n], Some(&line[n + 1..])),
+        None => (line, None),
     }
-    n
 }
 
 impl<'a> Reader<'a> {
@@ -53,8 +35,7 @@ impl<'a> Reader<'a> {
         ensures { ahead result ≡ (words line.now, number) }
     {
         Reader {
-            rest: line,
-            ended: false,
+            rest: Some(line),
             next: number,
         }
     }
@@ -65,69 +46,37 @@ impl<'a> Reader<'a> {
         ensures ahead { ahead self.new ≡ past (ahead self.old) }
     {
         self.next = self.next.saturating_add(1);
-        if self.ended {
-            return None;
-        }
-        let n = word_len(self.rest);
-        let word = &self.rest[0..n];
-        if n < self.rest.len() {
-            self.rest = &self.rest[n + 1..];
-        } else {
-            self.ended = true;
-        }
+        let (word, rest) = cut(self.rest?);
+        self.rest = rest;
         Some(word)
     }
 
-    // The next word and its number. It is at fault where it is missing.
-    fn due(&mut self) -> Result<(&'a [u8], u8), Fault>
-        ensures word { NextIs (ahead self.old) result }
+    // The next word with its number, taken for a word of the sort, or None at the line's end.
+    pub fn take<S: FnOnce(&'a [u8]) -> Word<'a> + Drop>(&mut self, sort: S) -> Option<Placed<'a>>
+        requires { S.IsAlwaysCallable sort }
+        ensures word { TakenAs (S.post sort) (ahead self.old) result }
         ensures ahead { ahead self.new ≡ past (ahead self.old) }
     {
         let at = self.next;
-        match self.next_word() {
-            Some(text) => Ok((text, at)),
-            None => Err(Fault::wrong_form(at)),
-        }
+        let word = sort(self.next_word()?);
+        Some(Placed { word, at })
     }
 
-    // The next word, taken for a number. It is at fault where it is missing.
-    pub fn number(&mut self) -> Result<Placed<'a>, Fault>
-        ensures word { NextAs number_text (ahead self.old) result }
+    // What the next word says, taken for a word of the sort. It is at fault where it is missing or does not read.
+    pub fn read<T, S: FnOnce(&'a [u8]) -> Word<'a> + Drop, R: FnOnce(Placed<'a>) -> Option<T>>(
+        &mut self,
+        sort: S,
+        reading: R,
+    ) -> Result<T, Fault>
+        requires sort { S.IsAlwaysCallable sort }
+        requires reading { R.IsAlwaysCallable reading }
+        ensures value { (rule : List ℕ → Option T) → Follows (S.post sort) (R.post reading) self.old.next rule → result ≡ by rule (upcoming (ahead self.old)) self.old.next }
         ensures ahead { ahead self.new ≡ past (ahead self.old) }
     {
-        let (text, at) = self.due()?;
-        let word = Word::Number(text);
-        Ok(Placed { word, at })
-    }
-
-    // The next word, taken for a hexadecimal number. It is at fault where it is missing.
-    pub fn hexadecimal(&mut self) -> Result<Placed<'a>, Fault>
-        ensures word { NextAs hexadecimal_text (ahead self.old) result }
-        ensures ahead { ahead self.new ≡ past (ahead self.old) }
-    {
-        let (text, at) = self.due()?;
-        let word = Word::Hexadecimal(text);
-        Ok(Placed { word, at })
-    }
-
-    // The next word, taken for marks. It is at fault where it is missing.
-    pub fn marks(&mut self) -> Result<Placed<'a>, Fault>
-        ensures word { NextAs marks_text (ahead self.old) result }
-        ensures ahead { ahead self.new ≡ past (ahead self.old) }
-    {
-        let (text, at) = self.due()?;
-        let word = Word::Marks(text);
-        Ok(Placed { word, at })
-    }
-
-    // The next word, taken for a field tag. It is at fault where it is missing.
-    pub fn tag(&mut self) -> Result<Placed<'a>, Fault>
-        ensures word { NextAs tag_text (ahead self.old) result }
-        ensures ahead { ahead self.new ≡ past (ahead self.old) }
-    {
-        let (text, at) = self.due()?;
-        let word = Word::Tag(text);
-        Ok(Placed { word, at })
+        let at = self.next;
+        self.take(sort)
+            .and_then(reading)
+            .ok_or(Fault::wrong_form(at))
     }
 
     // The next word, taken for a command, if there is one.
@@ -135,10 +84,7 @@ impl<'a> Reader<'a> {
         ensures word { text_of command_text result ≡ upcoming (ahead self.old) }
         ensures ahead { ahead self.new ≡ past (ahead self.old) }
     {
-        match self.next_word() {
-            Some(text) => Some(Word::Command(text)),
-            None => None,
-        }
+        self.take(Word::Command).map(|placed| placed.word)
     }
 
     // The next word as a number without a sign.
@@ -146,37 +92,7 @@ impl<'a> Reader<'a> {
         ensures value { result ≡ unsigned_in (ahead self.old) }
         ensures ahead { ahead self.new ≡ past (ahead self.old) }
     {
-        let word = self.number()?;
-        word.unsigned()
-    }
-
-    // The next word as a number behind a sign or none.
-    fn signed(&mut self) -> Result<i64, Fault>
-        ensures value { result ≡ signed_in (ahead self.old) }
-        ensures ahead { ahead self.new ≡ past (ahead self.old) }
-    {
-        let word = self.number()?;
-        word.signed()
-    }
-
-    // The next word as a hexadecimal number.
-    fn pattern(&mut self) -> Result<u64, Fault>
-        ensures value { result ≡ hexadecimal_in (ahead self.old) }
-        ensures ahead { ahead self.new ≡ past (ahead self.old) }
-    {
-        let word = self.hexadecimal()?;
-        word.hexadecimal()
-    }
-
-    // The next word, which is not read yet.
-    fn peek(&self) -> Option<&'a [u8]>
-        ensures { option_map (λ x. x.now) result ≡ upcoming (ahead self.now) }
-    {
-        if self.ended {
-            return None;
-        }
-        let n = word_len(self.rest);
-        Some(&self.rest[0..n])
+        self.read(Word::Number, Placed::number)
     }
 
     // Reads the next word if it is the given tag.
@@ -184,43 +100,73 @@ impl<'a> Reader<'a> {
         ensures value { result ≡ is_tag tag.now (upcoming (ahead self.old)) }
         ensures ahead { ahead self.new ≡ (if result then past (ahead self.old) else ahead self.old) }
     {
-        if let Some(text) = self.peek() {
-            if is(text, tag) {
-                let _ = self.next_word();
-                return true;
-            }
+        let found = self.rest.is_some_and(|line| is(cut(line).0, tag));
+        if found {
+            let _ = self.next_word();
         }
-        false
+        found
+    }
+
+    // What the word behind the tag says, or `absent` where the tag is not the next word.
+    #[tactic(auto, unfolding(crate::specs::Tags::past_field))]
+    pub fn field<
+        T: Drop,
+        S: FnOnce(&'a [u8]) -> Word<'a> + Drop,
+        R: FnOnce(Placed<'a>) -> Option<T> + Drop,
+    >(&mut self, tag: &[u8], sort: S, reading: R, absent: T) -> Result<T, Fault>
+        requires sort { S.IsAlwaysCallable sort }
+        requires reading { R.IsAlwaysCallable reading }
+        ensures value { (rule : List ℕ → Option T) → Follows (S.post sort) (R.post reading) (past (ahead self.old)).1 rule → result ≡ field_by tag.now rule absent (ahead self.old) }
+        ensures ahead { ahead self.new ≡ past_field tag.now (ahead self.old) }
+    {
+        if self.has_tag(tag) {
+            self.read(sort, reading)
+        } else {
+            Ok(absent)
+        }
+    }
+
+    // What the next word says, where no word is behind it.
+    fn only<T: Drop, S: FnOnce(&'a [u8]) -> Word<'a> + Drop, R: FnOnce(Placed<'a>) -> Option<T>>(
+        &mut self,
+        sort: S,
+        reading: R,
+    ) -> Result<T, Fault>
+        requires sort { S.IsAlwaysCallable sort }
+        requires reading { R.IsAlwaysCallable reading }
+        ensures value { (rule : List ℕ → Option T) → Follows (S.post sort) (R.post reading) self.old.next rule → result ≡ only (λ s. by rule (upcoming s) s.1) (ahead self.old) }
+    {
+        let said = self.read(sort, reading)?;
+        self.end()?;
+        Ok(said)
     }
 
     // A number without a sign, and no word behind it.
+    #[tactic(auto, unfolding(crate::specs::Readings::only_unsigned))]
     pub fn only_unsigned(&mut self) -> Result<u64, Fault>
         ensures { result ≡ only_unsigned (ahead self.old) }
     {
-        let n = self.unsigned()?;
-        self.end()?;
-        Ok(n)
+        self.only(Word::Number, Placed::number)
     }
 
     // A number behind a sign or none, and no word behind it.
+    #[tactic(auto, unfolding(crate::specs::Readings::only_signed))]
     pub fn only_signed(&mut self) -> Result<i64, Fault>
         ensures { result ≡ only_signed (ahead self.old) }
     {
-        let n = self.signed()?;
-        self.end()?;
-        Ok(n)
+        self.only(Word::Number, Placed::signed)
     }
 
     // A hexadecimal number, and no word behind it.
+    #[tactic(auto, unfolding(crate::specs::Readings::only_hexadecimal))]
     pub fn only_pattern(&mut self) -> Result<u64, Fault>
         ensures { result ≡ only_hexadecimal (ahead self.old) }
     {
-        let n = self.pattern()?;
-        self.end()?;
-        Ok(n)
+        self.only(Word::Hexadecimal, Placed::number)
     }
 
     // Two numbers without a sign, and no word behind them.
+    #[tactic(auto, unfolding(crate::specs::Readings::two_unsigned))]
     pub fn two_unsigned(&mut self) -> Result<(u64, u64), Fault>
         ensures { result ≡ two_unsigned (ahead self.old) }
     {
@@ -231,45 +177,13 @@ impl<'a> Reader<'a> {
     }
 
     // No word may be left.
+    #[tactic(auto, using(crate::proofs::Left::line_left))]
     pub fn end(&self) -> Result<(), Fault>
         ensures { result ≡ end_in (ahead self.now) }
     {
-        if self.ended {
-            Ok(())
-        } else {
-            Err(Fault::wrong_form(self.next))
+        match self.rest {
+            Some(_) => Err(Fault::wrong_form(self.next)),
+            None => Ok(()),
         }
-    }
-}
-
-impl Placed<'_> {
-    // What the word says as a number without a sign.
-    fn unsigned(&self) -> Result<u64, Fault>
-        ensures { result ≡ by (value_of 10 10) (number_text self.now.word) self.now.at }
-    {
-        let Word::Number(text) = self.word else {
-            return Err(Fault::wrong_form(self.at));
-        };
-        decimal_value(text).ok_or(Fault::wrong_form(self.at))
-    }
-
-    // What the word says as a number behind a sign or none.
-    fn signed(&self) -> Result<i64, Fault>
-        ensures { result ≡ by signed_of (number_text self.now.word) self.now.at }
-    {
-        let Word::Number(text) = self.word else {
-            return Err(Fault::wrong_form(self.at));
-        };
-        signed_value(text).ok_or(Fault::wrong_form(self.at))
-    }
-
-    // What the word says as a hexadecimal number.
-    fn hexadecimal(&self) -> Result<u64, Fault>
-        ensures { result ≡ by (value_of 16 8) (hexadecimal_text self.now.word) self.now.at }
-    {
-        let Word::Hexadecimal(text) = self.word else {
-            return Err(Fault::wrong_form(self.at));
-        };
-        hexadecimal_value(text).ok_or(Fault::wrong_form(self.at))
     }
 }

@@ -1,14 +1,14 @@
 // What an axis does: it steps, and its counter and its power are set.
 ghost use Rattle.std.specs.Prelude.{◌≡◌, ◌+ℤ◌};
-ghost use Rattle.axis.specs.Axes.{axis_state, one_step, new_axis, axis_stepped, with_counter, with_power, offset};
+ghost use Rattle.axis.specs.Axes.{one_step, new_axis, axis_stepped, with_counter, with_power, offset};
 ghost use Rattle.axis.specs.Wrap.{wrapped24};
 
 use super::Axis;
 use outputs::StepOutput;
 use senses::Sense;
 
-// A step as a number.
-fn signed(sense: Sense) -> i8
+// A step as a number: 1 forward, -1 back. The name says more here than `From` would.
+pub fn signed(sense: Sense) -> i8
     ensures { result ≡ one_step sense }
 {
     match sense {
@@ -22,22 +22,24 @@ fn counted(counter: i32, sense: Sense) -> i32
     ensures { result ≡ wrapped24 (counter +ℤ one_step sense) }
 {
     let next = i64::from(counter) + i64::from(signed(sense));
+    // Within 24 bits the cast loses nothing.
     ((next + 8_388_608).rem_euclid(16_777_216) - 8_388_608) as i32
 }
 
 impl<O: StepOutput> Axis<O> {
     // An axis over this output: its power is cut, its place stays, and the counter is 0.
-    pub fn new(output: O) -> Axis<O>
-        ensures { axis_state O.StepOutput.meaning result ≡ new_axis (O.StepOutput.meaning output) }
+    pub fn new(mut output: O) -> Axis<O>
+        ensures { result.state ≡ new_axis (O.StepOutput.meaning output) }
     {
-        let mut output = output;
         output.set_power(false);
         Axis { output, counter: 0 }
     }
 
-    fn step_counted(&mut self, sense: Sense) -> bool
-        ensures made { result ≡ (axis_state O.StepOutput.meaning self.old).power }
-        ensures moved { axis_state O.StepOutput.meaning self.new ≡ axis_stepped sense (axis_state O.StepOutput.meaning self.old) }
+    // One step: with power on, counter and place move by one; with power off, nothing changes. True if the step was made.
+    pub fn step(&mut self, sense: Sense) -> bool
+        ensures made { result ≡ self.old.state.power }
+        ensures moved { self.new.state ≡ axis_stepped sense self.old.state }
+        ensures alike { offset self.new.state ≡ offset self.old.state }
     {
         let made = self.output.step(sense);
         if made {
@@ -46,25 +48,16 @@ impl<O: StepOutput> Axis<O> {
         made
     }
 
-    // One step: with power on, counter and place move by one; with power off, nothing changes. True if the step was made.
-    pub fn step(&mut self, sense: Sense) -> bool
-        ensures made { result ≡ (axis_state O.StepOutput.meaning self.old).power }
-        ensures moved { axis_state O.StepOutput.meaning self.new ≡ axis_stepped sense (axis_state O.StepOutput.meaning self.old) }
-        ensures alike { offset (axis_state O.StepOutput.meaning self.new) ≡ offset (axis_state O.StepOutput.meaning self.old) }
-    {
-        self.step_counted(sense)
-    }
-
     // Sets the counter; place and power stay.
     pub fn set_counter(&mut self, value: i32)
-        ensures { axis_state O.StepOutput.meaning self.new ≡ with_counter value (axis_state O.StepOutput.meaning self.old) }
+        ensures { self.new.state ≡ with_counter value self.old.state }
     {
         self.counter = value;
     }
 
     // Switches power on or off; counter and place stay.
     pub fn set_power(&mut self, on: bool)
-        ensures { axis_state O.StepOutput.meaning self.new ≡ with_power on (axis_state O.StepOutput.meaning self.old) }
+        ensures { self.new.state ≡ with_power on self.old.state }
     {
         self.output.set_power(on);
     }

@@ -1,9 +1,12 @@
 // At most four sub-sequences are open.
-ghost use Rattle.std.specs.Prelude.{◌≡◌, [], ◌∷◌, length, if◌then◌else◌, nat_lt};
+ghost use Rattle.std.specs.Prelude.{◌≡◌, [], ◌∷◌, is_ok, if◌then◌else◌};
 ghost use Rattle.engine.specs.Stacks.{opened, latest, earlier};
+ghost use Rattle.engine.specs.Leaving.{one_more};
 
 use super::Returns;
-use crate::position::Next;
+use crate::fault::run_fault;
+use faults::{Cause, Fault};
+use phases::Position;
 
 const MOST_OPEN: usize = 4;
 
@@ -12,26 +15,26 @@ impl Returns {
         ensures { opened result ≡ [] }
     {
         Returns {
-            places: [Next::End; 4],
+            places: [None; MOST_OPEN],
             depth: 0,
         }
     }
 
     // Opens one more, unless four are open.
-    pub fn push(&mut self, next: Next) -> bool
-        ensures answer { result ≡ nat_lt (length (opened self.old)) 4 }
-        ensures after { opened self.new ≡ (if result then next ∷ opened self.old else opened self.old) }
+    pub fn push(&mut self, next: Option<Position>) -> Result<(), Fault>
+        ensures answer { result ≡ one_more (opened self.old) }
+        ensures after { opened self.new ≡ (if is_ok result then next ∷ opened self.old else opened self.old) }
     {
         if self.depth == MOST_OPEN {
-            return false;
+            return Err(run_fault(Cause::TooManyOpen));
         }
         self.places[self.depth] = next;
         self.depth += 1;
-        true
+        Ok(())
     }
 
-    // Closes the latest.
-    pub fn pop(&mut self) -> Option<Next>
+    // Closes the latest, if one is open, and answers where it returns to; that may be the end of the run.
+    pub fn pop(&mut self) -> Option<Option<Position>>
         ensures answer { result ≡ latest (opened self.old) }
         ensures after { opened self.new ≡ earlier (opened self.old) }
     {

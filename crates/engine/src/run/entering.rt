@@ -1,17 +1,18 @@
 // The tick that enters a phase: it sets NO and starts the movement or the wait.
 ghost use Rattle.std.specs.Prelude.{◌≡◌};
-ghost use Rattle.motion.specs.Values.{values};
-ghost use Rattle.store.specs.Directories.{sequences};
-ghost use Rattle.engine.specs.Progress.{progress, progress_left};
-ghost use Rattle.engine.specs.Entering.{power_of, zeroes, entered, moves_by, starts, phase_at, enters};
+ghost use Rattle.engine.specs.Progress.{progress, outcome};
+ghost use Rattle.engine.specs.Surroundings.{program, moment};
+ghost use Rattle.engine.specs.Entering.{power_of, entered, moves_by, starts, phase_at, enters};
 
 use super::{Run, State};
-use crate::distance::Distance;
+use crate::distance::distance_of;
 use crate::effects::{Effects, Power};
-use crate::position::Position;
-use motion::{Movement, Parameters, Speed};
+use crate::outcome::Outcome;
+use crate::surroundings::Surroundings;
+use motion::{Distance, Movement, Speed};
 use phases::{Nature, Phase};
-use store::Directory;
+
+const TICKS_PER_MS: u64 = 40;
 
 // A movement phase and NT switch power on, NU switches it off.
 fn power_of(nature: Nature) -> Option<Power>
@@ -24,34 +25,15 @@ fn power_of(nature: Nature) -> Option<Power>
     }
 }
 
-fn zeroes(nature: Nature) -> bool
-    ensures { result ≡ zeroes nature }
-{
-    match nature {
-        Nature::ZeroCounter => true,
-        _ => false,
-    }
-}
-
 // Entering the phase switches power, zeroes the counter and sets NO.
 fn entered(phase: &Phase) -> Effects
     ensures { result ≡ entered phase.now }
 {
     Effects {
         power: power_of(phase.nature),
-        zero_counter: zeroes(phase.nature),
+        zero_counter: matches!(phase.nature, Nature::ZeroCounter),
         outputs: phase.outputs,
-        ..Effects::NONE
-    }
-}
-
-// The written phase at a position, if there is one.
-fn phase_at(at: Position, memory: &[Phase], directory: &Directory) -> Option<Phase>
-    ensures { result ≡ phase_at (sequences directory.now) memory.now at }
-{
-    match directory.read(memory, at.sequence, at.phase) {
-        Ok(phase) => phase,
-        Err(_) => None,
+        ..Effects::default()
     }
 }
 
@@ -62,77 +44,49 @@ impl Run {
         phase: Phase,
         distance: Distance,
         constant: bool,
-        directory: &Directory,
-        levels: u8,
-        parameters: Parameters,
-    ) -> (Effects, Option<Run>)
-        ensures effects { result.0 ≡ (moves_by (sequences directory.now) levels (values parameters) (progress self) phase distance constant).effects }
-        ensures rest { progress_left result.1 ≡ (moves_by (sequences directory.now) levels (values parameters) (progress self) phase distance constant).rest }
+        here: &Surroundings,
+    ) -> Outcome
+        ensures { outcome result ≡ moves_by (program here.now) (moment here.now) (progress self) phase distance constant }
     {
         let effects = entered(&phase);
-        match Movement::new(
-            parameters,
-            self.plateau,
-            distance.sense,
-            distance.steps,
-            constant,
-        ) {
-            Some(movement) => {
-                let run = Run {
-                    state: State::Moving(phase, movement),
-                    ..self
-                };
-                (effects, Some(run))
-            }
-            None => self.end_phase(effects, phase, directory, levels),
+        match Movement::new(here.parameters, self.plateau, distance, constant) {
+            Some(movement) => self.stay(effects, State::Moving(phase, movement)),
+            None => self.end_phase(effects, phase, here),
         }
     }
 
     // By its nature the phase goes on or ends in this tick.
-    fn start(
-        mut self,
-        phase: Phase,
-        directory: &Directory,
-        counter: i32,
-        levels: u8,
-        parameters: Parameters,
-    ) -> (Effects, Option<Run>)
-        ensures effects { result.0 ≡ (starts (sequences directory.now) counter levels (values parameters) (progress self) phase phase.nature).effects }
-        ensures rest { progress_left result.1 ≡ (starts (sequences directory.now) counter levels (values parameters) (progress self) phase phase.nature).rest }
+    fn start(mut self, phase: Phase, here: &Surroundings) -> Outcome
+        ensures { outcome result ≡ starts (program here.now) (moment here.now) (progress self) phase phase.nature }
     {
         let (distance, constant) = match phase.nature {
-            Nature::Relative => (Distance::of(&phase), false),
-            Nature::ConstantSpeed => (Distance::of(&phase), true),
-            Nature::Absolute => (Distance::to(phase.set_point, counter), false),
-            Nature::Origin => (Distance::to(0, counter), false),
+            Nature::Relative => (distance_of(&phase), false),
+            Nature::ConstantSpeed => (distance_of(&phase), true),
+            Nature::Absolute => (Distance::to(phase.set_point, here.counter), false),
+            Nature::Origin => (Distance::to(0, here.counter), false),
             Nature::Wait => {
-                self.state = State::Waiting(phase, 40 * phase.set_point.unsigned_abs() as u64);
-                return (entered(&phase), Some(self));
+                let ticks = TICKS_PER_MS * u64::from(phase.set_point.unsigned_abs());
+                return self.stay(entered(&phase), State::Waiting(phase, ticks));
             }
             Nature::PlateauSpeed => {
                 self.plateau = Speed::new(phase.set_point);
-                return self.end_phase(entered(&phase), phase, directory, levels);
+                return self.end_phase(entered(&phase), phase, here);
             }
-            _ => return self.end_phase(entered(&phase), phase, directory, levels),
+            _ => return self.end_phase(entered(&phase), phase, here),
         };
-        self.start_movement(phase, distance, constant, directory, levels, parameters)
+        self.start_movement(phase, distance, constant, here)
     }
 
     // An unwritten phase, or one past the reserve, ends the run or returns from the sub-sequence.
-    pub(crate) fn enter(
-        self,
-        memory: &[Phase],
-        directory: &Directory,
-        counter: i32,
-        levels: u8,
-        parameters: Parameters,
-    ) -> (Effects, Option<Run>)
-        ensures effects { result.0 ≡ (enters (sequences directory.now) counter levels (values parameters) (progress self) (phase_at (sequences directory.now) memory.now self.at)).effects }
-        ensures rest { progress_left result.1 ≡ (enters (sequences directory.now) counter levels (values parameters) (progress self) (phase_at (sequences directory.now) memory.now self.at)).rest }
+    pub(crate) fn enter(self, here: &Surroundings) -> Outcome
+        ensures { outcome result ≡ enters (program here.now) (moment here.now) (progress self) (phase_at (program here.now) self.at) }
     {
-        match phase_at(self.at, memory, directory) {
-            Some(phase) => self.start(phase, directory, counter, levels, parameters),
-            None => (Effects::NONE, self.return_or_end()),
+        match here.phase_at(self.at) {
+            Some(phase) => self.start(phase, here),
+            None => Outcome {
+                effects: Effects::default(),
+                rest: self.return_or_end(),
+            },
         }
     }
 }

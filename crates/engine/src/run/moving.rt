@@ -1,79 +1,57 @@
 // A tick of a movement or of a wait, and the slow stop.
 ghost use Rattle.std.specs.Prelude.{◌≡◌};
 ghost use Rattle.motion.specs.Motions.{motion, tick_rest};
-ghost use Rattle.store.specs.Directories.{sequences};
-ghost use Rattle.engine.specs.Progress.{progress, progress_left};
+ghost use Rattle.engine.specs.Progress.{progress, progress_left, outcome};
+ghost use Rattle.engine.specs.Surroundings.{program, moment};
 ghost use Rattle.engine.specs.Ticks.{moved, waited, stopped_run};
 
 use super::{Run, State};
 use crate::effects::Effects;
+use crate::outcome::Outcome;
+use crate::surroundings::Surroundings;
 use motion::Movement;
 use phases::Phase;
-use store::Directory;
 
 impl Run {
     // After GE the end of the movement ends the run.
-    pub(crate) fn move_on(
-        self,
-        phase: Phase,
-        movement: Movement,
-        directory: &Directory,
-        levels: u8,
-    ) -> (Effects, Option<Run>)
-        ensures effects { result.0 ≡ (moved (sequences directory.now) levels (progress self) phase (motion movement) (tick_rest (motion movement))).effects }
-        ensures rest { progress_left result.1 ≡ (moved (sequences directory.now) levels (progress self) phase (motion movement) (tick_rest (motion movement))).rest }
+    pub(crate) fn move_on(self, phase: Phase, movement: Movement, here: &Surroundings) -> Outcome
+        ensures { outcome result ≡ moved (program here.now) (moment here.now) (progress self) phase (motion movement) (tick_rest (motion movement)) }
     {
         let (step, rest) = movement.tick();
         let effects = Effects {
             step,
-            ..Effects::NONE
+            ..Effects::default()
         };
         match rest {
-            Some(movement) => {
-                let run = Run {
-                    state: State::Moving(phase, movement),
-                    ..self
-                };
-                (effects, Some(run))
-            }
-            None if movement.is_stopping() => (effects, None),
-            None => self.end_phase(effects, phase, directory, levels),
+            Some(rest) => self.stay(effects, State::Moving(phase, rest)),
+            None if movement.is_stopping() => Outcome {
+                effects,
+                rest: None,
+            },
+            None => self.end_phase(effects, phase, here),
         }
     }
 
-    pub(crate) fn wait_on(
-        self,
-        phase: Phase,
-        ticks: u64,
-        directory: &Directory,
-        levels: u8,
-    ) -> (Effects, Option<Run>)
-        ensures effects { result.0 ≡ (waited (sequences directory.now) levels (progress self) phase ticks).effects }
-        ensures rest { progress_left result.1 ≡ (waited (sequences directory.now) levels (progress self) phase ticks).rest }
+    pub(crate) fn wait_on(self, phase: Phase, ticks: u64, here: &Surroundings) -> Outcome
+        ensures { outcome result ≡ waited (program here.now) (moment here.now) (progress self) phase ticks }
     {
         if ticks <= 1 {
-            return self.end_phase(Effects::NONE, phase, directory, levels);
+            return self.end_phase(Effects::default(), phase, here);
         }
-        let run = Run {
-            state: State::Waiting(phase, ticks - 1),
-            ..self
-        };
-        (Effects::NONE, Some(run))
+        self.stay(Effects::default(), State::Waiting(phase, ticks - 1))
     }
 
     // GE: the run if its movement goes on.
     pub(crate) fn slow_stop(self) -> Option<Run>
         ensures { progress_left result ≡ stopped_run (progress self) (progress self).activity }
     {
-        match self.state {
-            State::Moving(phase, movement) => match movement.stop() {
-                Some(movement) => Some(Run {
-                    state: State::Moving(phase, movement),
-                    ..self
-                }),
-                None => None,
-            },
-            _ => None,
-        }
+        let State::Moving(phase, movement) = self.state else {
+            return None;
+        };
+        let rest = movement.stop()?;
+        Some(Run {
+            state: State::Moving(phase, rest),
+            ..self
+        })
     }
 }

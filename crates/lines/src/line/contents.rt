@@ -47,23 +47,26 @@ impl Line {
     fn is_own(&self, address: u8) -> bool
         ensures { result ≡ is_own_in address (kept self.now) }
     {
-        let kept = self.characters();
-        kept.len() >= 2
-            && !self.first_damaged
+        !self.first_damaged
             && !self.second_damaged
-            && kept[0] == b'0' + address / 10
-            && kept[1] == b'0' + address % 10
+            && self
+                .characters()
+                .starts_with(&[b'0' + address / 10, b'0' + address % 10])
     }
 
     fn is_broadcast(&self) -> bool
         ensures { result ≡ is_broadcast_in (kept self.now) }
     {
-        let kept = self.characters();
-        kept.len() >= 1 && !self.first_damaged && kept[0] >= b'A' && kept[0] <= b'Z'
+        self.characters()
+            .first()
+            .is_some_and(u8::is_ascii_uppercase)
+            && !self.first_damaged
     }
 
-    fn decide(&self, address: u8) -> Addressee
-        ensures { result ≡ addressee_in address (kept self.now) }
+    // Whom the line is for, at a module of the address.
+    pub fn addressee(&self, address: u8) -> Addressee
+        ensures value { result ≡ addressee_in address (kept self.now) }
+        ensures list { (cs : List Character) → kept self.now ≡ kept_of cs → result ≡ addressee_of address cs }
     {
         if self.is_own(address) {
             Addressee::Own
@@ -74,29 +77,15 @@ impl Line {
         }
     }
 
-    // Whom the line is for, at a module of the address.
-    pub fn addressee(&self, address: u8) -> Addressee
-        ensures value { result ≡ addressee_in address (kept self.now) }
-        ensures list { (cs : List Character) → kept self.now ≡ kept_of cs → result ≡ addressee_of address cs }
-    {
-        self.decide(address)
-    }
-
-    fn part(&self, from: usize) -> Result<&[u8], Fault>
-        ensures { result_map_both (λ x. x.now) (λ f. f) result ≡ text_in from (kept self.now) }
+    // The line behind its first `from` characters, or why the line is refused.
+    pub fn text(&self, from: usize) -> Result<&[u8], Fault>
+        ensures value { result_map_both (λ x. x.now) (λ f. f) result ≡ text_in from (kept self.now) }
+        ensures list { (cs : List Character) → kept self.now ≡ kept_of cs → result_map_both (λ x. x.now) (λ f. f) result ≡ received from cs }
     {
         if self.refused {
             return Err(Fault::bad_line());
         }
         let kept = self.characters();
         Ok(&kept[from.min(kept.len())..])
-    }
-
-    // The line behind its first `from` characters, or why the line is refused.
-    pub fn text(&self, from: usize) -> Result<&[u8], Fault>
-        ensures value { result_map_both (λ x. x.now) (λ f. f) result ≡ text_in from (kept self.now) }
-        ensures list { (cs : List Character) → kept self.now ≡ kept_of cs → result_map_both (λ x. x.now) (λ f. f) result ≡ received from cs }
-    {
-        self.part(from)
     }
 }

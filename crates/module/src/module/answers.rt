@@ -4,60 +4,53 @@ ghost use Rattle.replies.specs.Replies.{answered};
 ghost use Rattle.control.specs.States.{state};
 ghost use Rattle.module.specs.Lines.{phase_read, phase_reply, parameters_reply, position_reply, order_reply, answered_to};
 ghost use Rattle.questions.specs.Questions.{version_text};
-ghost use Rattle.axis.specs.Axes.{axis_state};
 ghost use Rattle.module.specs.Views.{rest_in, sent};
 
 use super::Module;
-use axis::Axis;
 use faults::Fault;
 use lines::Addressee;
 use orders::Order;
 use outputs::StepOutput;
-use phases::Phase;
-use questions::{acknowledge, answer_parameters, answer_position, answer_version};
+use phases::{Phase, Position};
+use questions::{Parameters, acknowledge, answer_parameters, answer_position, answer_version};
 use texts::answer_rs;
 
 impl<O: StepOutput> Module<O> {
     // The phase that RS tells.
-    fn phase(&self, memory: &[Phase], number: u8, np: u8) -> Phase
-        ensures { result ≡ phase_read (rest_in O.StepOutput.meaning self.now memory.now) number np }
+    fn phase(&self, memory: &[Phase], at: Position) -> Phase
+        ensures { result ≡ phase_read (rest_in self.now memory.now) at }
     {
-        match self.control.directory.read(memory, number, np) {
-            Ok(Some(phase)) => phase,
-            Ok(None) | Err(_) => Phase::blank(),
-        }
+        self.control
+            .directory
+            .read(memory, at)
+            .ok()
+            .flatten()
+            .unwrap_or(Phase::blank())
     }
 
     fn parameters_reply(&self, out: &mut [u8]) -> Result<usize, Fault>
         ensures { (result, out.new) ≡ answered (parameters_reply (state self.now.control)) out.old }
     {
         let settings = self.control.settings;
-        answer_parameters(
-            out,
-            self.control.address,
-            settings.parameters.start_speed(),
-            settings.parameters.plateau_speed(),
-            settings.parameters.slope(),
-            settings.distance,
-            settings.direction,
-        )
+        let told = Parameters {
+            start_speed: settings.parameters.start_speed(),
+            plateau_speed: settings.parameters.plateau_speed(),
+            slope: settings.parameters.slope(),
+            distance: settings.distance,
+            direction: settings.direction,
+        };
+        answer_parameters(out, self.control.address, told)
     }
 
-    fn phase_reply(
-        &self,
-        memory: &[Phase],
-        out: &mut [u8],
-        number: u8,
-        np: u8,
-    ) -> Result<usize, Fault>
-        ensures { (result, out.new) ≡ answered (phase_reply (rest_in O.StepOutput.meaning self.now memory.now) number np) out.old }
+    #[tactic(auto, unfolding(crate::specs::Lines::phase_reply))]
+    fn phase_reply(&self, memory: &[Phase], out: &mut [u8], at: Position) -> Result<usize, Fault>
+        ensures { (result, out.new) ≡ answered (phase_reply (rest_in self.now memory.now) at) out.old }
     {
-        let phase = self.phase(memory, number, np);
-        answer_rs(&phase, out, self.control.address, number, np)
+        answer_rs(&self.phase(memory, at), out, self.control.address, at)
     }
 
     fn position_reply(&self, out: &mut [u8]) -> Result<usize, Fault>
-        ensures { (result, out.new) ≡ answered (position_reply (state self.now.control) (axis_state O.StepOutput.meaning self.now.axis).counter) out.old }
+        ensures { (result, out.new) ≡ answered (position_reply (state self.now.control) self.now.axis.state.counter) out.old }
     {
         let control = &self.control;
         answer_position(
@@ -70,17 +63,18 @@ impl<O: StepOutput> Module<O> {
     }
 
     fn version_reply(&self, out: &mut [u8]) -> Result<usize, Fault>
-        ensures { (result, out.new) ≡ answered (version_text self.now.control.address O.StepOutput.cycle) out.old }
+        ensures { (result, out.new) ≡ answered (version_text self.now.control.address O.CYCLE) out.old }
     {
-        answer_version(out, self.control.address, Axis::<O>::cycle())
+        answer_version(out, self.control.address, O::CYCLE)
     }
 
     // The reply to an own line.
+    #[tactic(auto, unfolding(crate::specs::Lines::order_reply))]
     fn own_reply(&self, order: Order, memory: &[Phase], out: &mut [u8]) -> Result<usize, Fault>
-        ensures { (result, out.new) ≡ answered (order_reply O.StepOutput.cycle (rest_in O.StepOutput.meaning self.now memory.now) order) out.old }
+        ensures { (result, out.new) ≡ answered (order_reply O.CYCLE (rest_in self.now memory.now) order) out.old }
     {
         match order {
-            Order::ReadPhase { number, np } => self.phase_reply(memory, out, number, np),
+            Order::ReadPhase(at) => self.phase_reply(memory, out, at),
             Order::ReadParameters => self.parameters_reply(out),
             Order::ReadPosition => self.position_reply(out),
             Order::ReadVersion => self.version_reply(out),
@@ -97,7 +91,7 @@ impl<O: StepOutput> Module<O> {
         out: &mut [u8],
     ) -> Result<usize, Fault>
         requires { 80 ≤ length out.old }
-        ensures { (result, out.new) ≡ sent (answered_to to (order_reply O.StepOutput.cycle (rest_in O.StepOutput.meaning self.now memory.now) order)) out.old }
+        ensures { (result, out.new) ≡ sent (answered_to to (order_reply O.CYCLE (rest_in self.now memory.now) order)) out.old }
     {
         match to {
             Addressee::Own => self.own_reply(order, memory, out),

@@ -4,9 +4,7 @@ ghost use Rattle.lines.specs.Lines.{kept, kept_of};
 ghost use Rattle.phases.specs.declared.phase.Phase.{Phase as Record};
 ghost use Rattle.law.specs.Events.{handed, with_room, received as arrived};
 ghost use Rattle.law.specs.Events.Event.{tick as ticking, levels as levelling, power_up as powering};
-ghost use Rattle.law.specs.History.{next, answer};
-ghost use Rattle.module.specs.Machine.{module_device};
-ghost use Rattle.module.specs.Views.{rest_in, state_in, new_rest, addressed, character_answer, tick_answer, plain_answer, address_answer};
+ghost use Rattle.module.specs.Views.{rest_in, state_in, state_after, answer_to, new_rest, addressed, character_answer, tick_answer, plain_answer, address_answer};
 
 use super::Module;
 use crate::effects::{affect, change};
@@ -16,15 +14,14 @@ use faults::Fault;
 use lines::Receiver;
 use outputs::StepOutput;
 use phases::Phase;
-
-const RECORDS: usize = 414;
+use store::whole;
 
 const REPLY_ROOM: usize = 80;
 
 impl<O: StepOutput> Module<O> {
     // A new module over an output: its power is cut, its place stays.
     pub fn new(output: O) -> Module<O>
-        ensures rest { (records : List Record) → rest_in O.StepOutput.meaning result records ≡ new_rest (O.StepOutput.meaning output) records }
+        ensures rest { (records : List Record) → rest_in result records ≡ new_rest (O.meaning output) records }
         ensures fault { result.fault ≡ None }
         ensures line { kept result.receiver.line ≡ kept_of [] }
     {
@@ -39,7 +36,7 @@ impl<O: StepOutput> Module<O> {
     // Sets the address, 0 to 63, and drops an unfinished line.
     pub fn set_address(&mut self, address: u8) -> Result<(), Fault>
         ensures answer { result ≡ address_answer address }
-        ensures rest { (records : List Record) → rest_in O.StepOutput.meaning self.new records ≡ (if is_ok result then addressed (rest_in O.StepOutput.meaning self.old records) address else rest_in O.StepOutput.meaning self.old records) }
+        ensures rest { (records : List Record) → rest_in self.new records ≡ (if is_ok result then addressed (rest_in self.old records) address else rest_in self.old records) }
         ensures fault { self.new.fault ≡ self.old.fault }
         ensures line { kept self.new.receiver.line ≡ (if is_ok result then kept_of [] else kept self.old.receiver.line) }
     {
@@ -60,8 +57,8 @@ impl<O: StepOutput> Module<O> {
         out: &mut [u8],
     ) -> Result<usize, Fault>
         requires { 80 ≤ length out.old }
-        ensures state { state_in O.StepOutput.cycle O.StepOutput.meaning self.new memory.new ≡ next (module_device O.StepOutput.cycle) (state_in O.StepOutput.cycle O.StepOutput.meaning self.old memory.old) (arrived byte damaged) }
-        ensures answer { (result, out.new) ≡ character_answer (answer (module_device O.StepOutput.cycle) (state_in O.StepOutput.cycle O.StepOutput.meaning self.old memory.old) (arrived byte damaged)) out.old }
+        ensures state { state_in O.CYCLE self.new memory.new ≡ state_after O.CYCLE self.old memory.old (arrived byte damaged) }
+        ensures answer { (result, out.new) ≡ character_answer (answer_to O.CYCLE self.old memory.old (arrived byte damaged)) out.old }
     {
         match self.receiver.receive(byte, damaged) {
             Some(line) => self.finish(&line, memory, out),
@@ -77,22 +74,21 @@ impl<O: StepOutput> Module<O> {
         memory: &mut [Phase],
         out: &mut [u8],
     ) -> Result<usize, Fault>
-        ensures state { state_in O.StepOutput.cycle O.StepOutput.meaning self.new memory.new ≡ next (module_device O.StepOutput.cycle) (state_in O.StepOutput.cycle O.StepOutput.meaning self.old memory.old) (handed (length memory.old) (with_room (length out.old) (arrived byte damaged))) }
-        ensures answer { (result, out.new) ≡ character_answer (answer (module_device O.StepOutput.cycle) (state_in O.StepOutput.cycle O.StepOutput.meaning self.old memory.old) (handed (length memory.old) (with_room (length out.old) (arrived byte damaged)))) out.old }
+        ensures state { state_in O.CYCLE self.new memory.new ≡ state_after O.CYCLE self.old memory.old (handed (length memory.old) (with_room (length out.old) (arrived byte damaged))) }
+        ensures answer { (result, out.new) ≡ character_answer (answer_to O.CYCLE self.old memory.old (handed (length memory.old) (with_room (length out.old) (arrived byte damaged)))) out.old }
     {
-        if memory.len() != RECORDS {
-            return Err(Fault::wrong_memory());
-        }
+        whole(memory)?;
         if out.len() < REPLY_ROOM {
             return Err(Fault::short_reply());
         }
         self.receive(byte, damaged, memory, out)
     }
 
-    // What a tick does: the step made, and whether the module is still busy.
+    // What a tick does: the step made, as a number that can be added to a place, and whether the module is still busy.
+    #[tactic(auto, unfolding(crate::specs::Rests::ticked_rest))]
     fn beat(&mut self, memory: &[Phase]) -> (i8, bool)
-        ensures state { state_in O.StepOutput.cycle O.StepOutput.meaning self.new memory.now ≡ next (module_device O.StepOutput.cycle) (state_in O.StepOutput.cycle O.StepOutput.meaning self.old memory.now) ticking }
-        ensures answer { Ok result ≡ tick_answer (answer (module_device O.StepOutput.cycle) (state_in O.StepOutput.cycle O.StepOutput.meaning self.old memory.now) ticking) }
+        ensures state { state_in O.CYCLE self.new memory.now ≡ state_after O.CYCLE self.old memory.now ticking }
+        ensures answer { Ok result ≡ tick_answer (answer_to O.CYCLE self.old memory.now ticking) }
     {
         let effects = self.control.tick(memory, self.axis.counter());
         let made = affect(&mut self.axis, &effects);
@@ -102,35 +98,29 @@ impl<O: StepOutput> Module<O> {
 
     // One tick of 1/40,000 s.
     pub fn tick(&mut self, memory: &[Phase]) -> Result<(i8, bool), Fault>
-        ensures state { state_in O.StepOutput.cycle O.StepOutput.meaning self.new memory.now ≡ next (module_device O.StepOutput.cycle) (state_in O.StepOutput.cycle O.StepOutput.meaning self.old memory.now) (handed (length memory.now) ticking) }
-        ensures answer { result ≡ tick_answer (answer (module_device O.StepOutput.cycle) (state_in O.StepOutput.cycle O.StepOutput.meaning self.old memory.now) (handed (length memory.now) ticking)) }
+        ensures state { state_in O.CYCLE self.new memory.now ≡ state_after O.CYCLE self.old memory.now (handed (length memory.now) ticking) }
+        ensures answer { result ≡ tick_answer (answer_to O.CYCLE self.old memory.now (handed (length memory.now) ticking)) }
     {
-        if memory.len() != RECORDS {
-            return Err(Fault::wrong_memory());
-        }
+        whole(memory)?;
         Ok(self.beat(memory))
     }
 
     // The levels of the inputs.
     pub fn set_levels(&mut self, levels: u8, memory: &[Phase]) -> Result<(), Fault>
-        ensures state { state_in O.StepOutput.cycle O.StepOutput.meaning self.new memory.now ≡ next (module_device O.StepOutput.cycle) (state_in O.StepOutput.cycle O.StepOutput.meaning self.old memory.now) (handed (length memory.now) (levelling levels)) }
-        ensures answer { result ≡ plain_answer (answer (module_device O.StepOutput.cycle) (state_in O.StepOutput.cycle O.StepOutput.meaning self.old memory.now) (handed (length memory.now) (levelling levels))) }
+        ensures state { state_in O.CYCLE self.new memory.now ≡ state_after O.CYCLE self.old memory.now (handed (length memory.now) (levelling levels)) }
+        ensures answer { result ≡ plain_answer (answer_to O.CYCLE self.old memory.now (handed (length memory.now) (levelling levels))) }
     {
-        if memory.len() != RECORDS {
-            return Err(Fault::wrong_memory());
-        }
+        whole(memory)?;
         self.control.set_levels(levels);
         Ok(())
     }
 
     // Power-up drops an unfinished line, clears the fault and starts the chosen sequence.
     pub fn power_up(&mut self, memory: &[Phase]) -> Result<(), Fault>
-        ensures state { state_in O.StepOutput.cycle O.StepOutput.meaning self.new memory.now ≡ next (module_device O.StepOutput.cycle) (state_in O.StepOutput.cycle O.StepOutput.meaning self.old memory.now) (handed (length memory.now) powering) }
-        ensures answer { result ≡ plain_answer (answer (module_device O.StepOutput.cycle) (state_in O.StepOutput.cycle O.StepOutput.meaning self.old memory.now) (handed (length memory.now) powering)) }
+        ensures state { state_in O.CYCLE self.new memory.now ≡ state_after O.CYCLE self.old memory.now (handed (length memory.now) powering) }
+        ensures answer { result ≡ plain_answer (answer_to O.CYCLE self.old memory.now (handed (length memory.now) powering)) }
     {
-        if memory.len() != RECORDS {
-            return Err(Fault::wrong_memory());
-        }
+        whole(memory)?;
         let made = self.control.power_up();
         change(&mut self.axis, made);
         self.fault = None;

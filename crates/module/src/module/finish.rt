@@ -1,12 +1,11 @@
-// A finished line: judged, carried out and answered.
+// A finished line: judged, carried out and answered. The room of the buffer is tested in the public call alone, and asked for here;
+// what stays is a fact of each call.
 ghost use Rattle.std.specs.Prelude.{◌≡◌, ◌≤◌, true, length, None};
 ghost use Rattle.lines.specs.Lines.{kept};
 ghost use Rattle.questions.specs.Questions.{fault_text, refused as refused_text};
-ghost use Rattle.law.specs.Machine.{done_by};
 ghost use Rattle.module.specs.Rests.{obeyed_rest};
-ghost use Rattle.module.specs.Lines.{clears, asks, answered_to, order_outcome, outcome_of, line_outcome};
-ghost use Rattle.module.specs.Machine.{machine};
-ghost use Rattle.module.specs.Views.{rest_in, core_in, sent};
+ghost use Rattle.module.specs.Lines.{answered_to, order_outcome, outcome_of, line_outcome};
+ghost use Rattle.module.specs.Views.{rest_in, core_in, done_in, sent};
 
 use super::Module;
 use crate::effects::change;
@@ -16,24 +15,6 @@ use orders::Order;
 use outputs::StepOutput;
 use phases::Phase;
 use questions::{answer_fault, refuse};
-
-fn clears(order: Order) -> bool
-    ensures { result ≡ clears order }
-{
-    match order {
-        Order::Restart | Order::ReadFault => true,
-        _ => false,
-    }
-}
-
-fn asks(order: Order) -> bool
-    ensures { result ≡ asks order }
-{
-    match order {
-        Order::ReadFault => true,
-        _ => false,
-    }
-}
 
 // The reply to a refused line.
 fn refusal(to: Addressee, out: &mut [u8]) -> Result<usize, Fault>
@@ -48,8 +29,9 @@ fn refusal(to: Addressee, out: &mut [u8]) -> Result<usize, Fault>
 
 impl<O: StepOutput> Module<O> {
     // Carries an order out.
+    #[tactic(auto, unfolding(crate::specs::Rests::obeyed_rest))]
     fn obey(&mut self, order: Order, memory: &mut [Phase])
-        ensures rest { rest_in O.StepOutput.meaning self.new memory.new ≡ obeyed_rest (rest_in O.StepOutput.meaning self.old memory.old) order }
+        ensures rest { rest_in self.new memory.new ≡ obeyed_rest (rest_in self.old memory.old) order }
         ensures fault { self.new.fault ≡ self.old.fault }
         ensures receiver { self.new.receiver ≡ self.old.receiver }
     {
@@ -66,9 +48,7 @@ impl<O: StepOutput> Module<O> {
         ensures axis { self.new.axis ≡ self.old.axis }
         ensures receiver { self.new.receiver ≡ self.old.receiver }
     {
-        let fault = self.fault;
-        self.fault = None;
-        answer_fault(out, self.control.address, fault)
+        answer_fault(out, self.control.address, self.fault.take())
     }
 
     // An accepted order: RX tells the fault record, MR clears it.
@@ -80,22 +60,23 @@ impl<O: StepOutput> Module<O> {
         out: &mut [u8],
     ) -> Result<usize, Fault>
         requires { 80 ≤ length out.old }
-        ensures core { core_in O.StepOutput.cycle O.StepOutput.meaning self.new memory.new ≡ (done_by (machine O.StepOutput.cycle) (core_in O.StepOutput.cycle O.StepOutput.meaning self.old memory.old) (order_outcome O.StepOutput.cycle (rest_in O.StepOutput.meaning self.old memory.old) to order)).0 }
-        ensures reply { (result, out.new) ≡ sent (done_by (machine O.StepOutput.cycle) (core_in O.StepOutput.cycle O.StepOutput.meaning self.old memory.old) (order_outcome O.StepOutput.cycle (rest_in O.StepOutput.meaning self.old memory.old) to order)).1 out.old }
+        ensures core { core_in O.CYCLE self.new memory.new ≡ (done_in O.CYCLE self.old memory.old (order_outcome O.CYCLE (rest_in self.old memory.old) to order)).0 }
+        ensures reply { (result, out.new) ≡ sent (done_in O.CYCLE self.old memory.old (order_outcome O.CYCLE (rest_in self.old memory.old) to order)).1 out.old }
         ensures receiver { self.new.receiver ≡ self.old.receiver }
     {
-        if asks(order) {
+        if matches!(order, Order::ReadFault) {
             return self.tell_fault(out);
         }
         let answer = self.reply(to, order, memory, out);
         self.obey(order, memory);
-        if clears(order) {
+        if matches!(order, Order::Restart) {
             self.fault = None;
         }
         answer
     }
 
     // A finished line.
+    #[tactic(auto, unfolding(crate::specs::Lines::line_outcome))]
     pub(crate) fn finish(
         &mut self,
         line: &Line,
@@ -103,8 +84,8 @@ impl<O: StepOutput> Module<O> {
         out: &mut [u8],
     ) -> Result<usize, Fault>
         requires { 80 ≤ length out.old }
-        ensures core { core_in O.StepOutput.cycle O.StepOutput.meaning self.new memory.new ≡ (done_by (machine O.StepOutput.cycle) (core_in O.StepOutput.cycle O.StepOutput.meaning self.old memory.old) (line_outcome O.StepOutput.cycle (rest_in O.StepOutput.meaning self.old memory.old) (kept line.now))).0 }
-        ensures reply { (result, out.new) ≡ sent (done_by (machine O.StepOutput.cycle) (core_in O.StepOutput.cycle O.StepOutput.meaning self.old memory.old) (line_outcome O.StepOutput.cycle (rest_in O.StepOutput.meaning self.old memory.old) (kept line.now))).1 out.old }
+        ensures core { core_in O.CYCLE self.new memory.new ≡ (done_in O.CYCLE self.old memory.old (line_outcome O.CYCLE (rest_in self.old memory.old) (kept line.now))).0 }
+        ensures reply { (result, out.new) ≡ sent (done_in O.CYCLE self.old memory.old (line_outcome O.CYCLE (rest_in self.old memory.old) (kept line.now))).1 out.old }
         ensures receiver { self.new.receiver ≡ self.old.receiver }
     {
         let to = line.addressee(self.control.address);

@@ -5,42 +5,38 @@ ghost use Rattle.motion.specs.Motions.{motion, motion_left, plateau_of, begun};
 ghost use Rattle.motion.specs.Ticks.{after, made, SpeedAtMost};
 
 use super::Movement;
+use crate::distance::Distance;
 use crate::parameters::{Parameters, Speed};
-use senses::Sense;
 
 const TICKS_PER_MS: u32 = 40;
 
 impl Movement {
-    // Starts a movement of that many steps; zero steps are done at the start. The plateau is VX, or the speed asked for,
+    // Starts a movement over that distance; zero steps are done at the start. The plateau is VX, or the speed asked for,
     // but at least VN. A constant movement (NV) stays at VN.
     pub fn new(
         parameters: Parameters,
         speed: Option<Speed>,
-        sense: Sense,
-        steps: u32,
+        distance: Distance,
         constant: bool,
     ) -> Option<Movement>
-        ensures begun { motion_left result ≡ begun (values parameters) (speed_value speed) sense steps constant }
-        ensures makes { made (2000 * steps) (motion_left result) ≡ replicate steps sense }
-        ensures ends { after (2000 * steps) (motion_left result) ≡ None }
+        ensures begun { motion_left result ≡ begun (values parameters) (speed_value speed) distance.sense distance.steps constant }
+        ensures makes { made (2000 * distance.steps) (motion_left result) ≡ replicate distance.steps distance.sense }
+        ensures ends { after (2000 * distance.steps) (motion_left result) ≡ None }
         ensures plateau { SpeedAtMost (plateau_of (values parameters) (speed_value speed)) (motion_left result) }
     {
-        if steps == 0 {
+        if distance.steps == 0 {
             return None;
         }
-        let plateau = match speed {
-            Some(speed) => speed.value,
-            None => parameters.plateau,
-        };
+        let plateau = speed.unwrap_or(parameters.plateau);
         Some(Movement {
-            sense,
-            left: steps,
+            sense: distance.sense,
+            left: distance.steps,
             ramp: 0,
             up: 0,
             accumulated: 0,
             start: parameters.start,
-            plateau: plateau.max(parameters.start),
-            top: TICKS_PER_MS * parameters.slope as u32,
+            plateau: plateau.at_least(parameters.start),
+            top: TICKS_PER_MS * u32::from(parameters.slope),
             constant,
             stopping: false,
         })

@@ -39,8 +39,9 @@ impl Movement {
         ensures value { result ≡ speed_at (motion self.now) ramp }
         ensures most { result ≤ 20000 }
     {
-        let rise = (self.plateau - self.start) as u64;
-        self.start as u32 + (rise * ramp as u64 / self.top as u64) as u32
+        let rise = u64::from(self.plateau.value - self.start.value);
+        // The quotient is at most the rise, so that the cast loses nothing.
+        u32::from(self.start.value) + (rise * u64::from(ramp) / u64::from(self.top)) as u32
     }
 
     // One tick: the step made, if any, and the movement if it goes on.

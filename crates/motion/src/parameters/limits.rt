@@ -1,5 +1,5 @@
 // Speeds and parameters, made only within their limits.
-ghost use Rattle.std.specs.Prelude.{◌≡◌, ◌≤◌};
+ghost use Rattle.std.specs.Prelude.{◌≡◌, ◌≤◌, max};
 ghost use Rattle.motion.specs.Values.{speed_value, speed_within, values, values_made, values_within, initial_values};
 
 use super::{Parameters, Speed};
@@ -9,12 +9,24 @@ impl Speed {
     pub fn new(set_point: i32) -> Option<Speed>
         ensures { speed_value result ≡ speed_within set_point }
     {
-        if 20 <= set_point && set_point <= 20_000 {
+        if (20..=20_000).contains(&set_point) {
             Some(Speed {
+                // Within the limits the cast loses nothing.
                 value: set_point as u16,
             })
         } else {
             None
+        }
+    }
+
+    // This speed, or that one if it is higher.
+    pub(crate) fn at_least(self, least: Speed) -> Speed
+        ensures { result.value ≡ max self.value least.value }
+    {
+        if self.value < least.value {
+            least
+        } else {
+            self
         }
     }
 }
@@ -24,7 +36,9 @@ impl Parameters {
     pub fn new(start: u16, plateau: u16, slope: u16) -> Option<Parameters>
         ensures { values_made result ≡ values_within start plateau slope }
     {
-        if 20 <= start && start <= plateau && plateau <= 20_000 && 1 <= slope && slope <= 65_000 {
+        let start = Speed::new(i32::from(start))?;
+        let plateau = Speed::new(i32::from(plateau))?;
+        if start.value <= plateau.value && (1..=65_000).contains(&slope) {
             Some(Parameters {
                 start,
                 plateau,
@@ -40,28 +54,28 @@ impl Parameters {
         ensures { values result ≡ initial_values }
     {
         Parameters {
-            start: 500,
-            plateau: 2000,
+            start: Speed { value: 500 },
+            plateau: Speed { value: 2000 },
             slope: 1000,
         }
     }
 
-    // VN, in steps per second.
+    // VN, in steps per second: a plain number for the caller, so that its limits are said again.
     pub fn start_speed(&self) -> u16
         ensures value { result ≡ (values self.now).start_speed }
         ensures least { 20 ≤ result }
         ensures most { result ≤ 20000 }
     {
-        self.start
+        self.start.value
     }
 
-    // VX, in steps per second.
+    // VX, in steps per second, told as VN is.
     pub fn plateau_speed(&self) -> u16
         ensures value { result ≡ (values self.now).plateau_speed }
         ensures least { (values self.now).start_speed ≤ result }
         ensures most { result ≤ 20000 }
     {
-        self.plateau
+        self.plateau.value
     }
 
     // TR, in milliseconds.

@@ -1,5 +1,5 @@
 // The steps and the power of a pulse output, and the place that its counts give.
-ghost use Rattle.std.specs.Prelude.{◌≡◌};
+ghost use Rattle.std.specs.Prelude.{◌≡◌, refl};
 ghost use Rattle.outputs.specs.Meaning.{stepped, switched};
 ghost use Rattle.outputs.specs.Pulses.{counted, pulse_cycle, pulse_meaning, pulses};
 ghost use Rattle.std.proofs.Common.{rules};
@@ -11,17 +11,13 @@ use senses::Sense;
 impl StepOutput for PulseOutput {
     const CYCLE: u32 = 1;
 
-    ghost meaning = { pulse_meaning };
+    ghost CYCLE = { pulse_cycle };
 
-    ghost cycle = { pulse_cycle };
+    ghost meaning = { pulse_meaning };
 
     ghost bounded = { Prim.search rules };
 
-    ghost divides = { Prim.search rules };
-
-    fn places_per_cycle() -> u32 {
-        Self::CYCLE
-    }
+    ghost divides = { refl };
 
     // With power on one pulse is counted, of the step's sense.
     fn step(&mut self, sense: Sense) -> bool

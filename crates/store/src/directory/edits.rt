@@ -8,12 +8,12 @@ ghost use Rattle.store.specs.Records.{lent, blanked, closed, appended, create_an
 
 use super::{Block, Directory};
 use faults::Fault;
-use phases::Phase;
+use phases::{Phase, Position};
 
 const CAPACITY: usize = 414;
 
 // The phase memory has 414 records.
-fn whole(memory: &[Phase]) -> Result<(), Fault>
+pub fn whole(memory: &[Phase]) -> Result<(), Fault>
     ensures answer { result ≡ lent memory.now }
     ensures whole { OnOk result (length memory.now ≡ 414) }
 {
@@ -59,36 +59,36 @@ impl Directory {
     }
 
     // Whether a sequence of that number and reserve can be created.
-    #[tactic(auto, using(crate::proofs::Asked::refused_full))]
-    pub fn admits(&self, number: u8, reserve: u8) -> Result<(), Fault>
-        ensures { result ≡ create_answer (sequences self.now) number reserve }
+    #[tactic(auto, using(crate::proofs::Asked::refused_exists, crate::proofs::Asked::refused_full, crate::proofs::Asked::admitted))]
+    pub fn admits(&self, block: Block) -> Result<(), Fault>
+        ensures { result ≡ create_answer (sequences self.now) block.number block.reserve }
     {
-        if number == 0 || number > 99 {
+        if block.number == 0 || block.number > 99 {
             return Err(Fault::past_limit(2));
         }
-        if reserve == 0 || reserve > 50 {
+        if block.reserve == 0 || block.reserve > 50 {
             return Err(Fault::no_such_phase(3));
         }
-        if self.find(number).is_some() {
+        if self.find(block.number).is_some() {
             return Err(Fault::sequence_exists());
         }
-        if self.reserved() + reserve as usize > CAPACITY {
+        if self.reserved() + usize::from(block.reserve) > CAPACITY {
             return Err(Fault::memory_full());
         }
         Ok(())
     }
 
     // SN: appends a sequence and blanks its records.
-    pub fn create(&mut self, memory: &mut [Phase], number: u8, reserve: u8) -> Result<(), Fault>
-        ensures answer { result ≡ and_then (lent memory.old) (λ _. create_answer (sequences self.old) number reserve) }
-        ensures directory { sequences self.new ≡ (if is_ok result then appended (sequences self.old) number reserve else sequences self.old) }
-        ensures records { memory.new ≡ (if is_ok result then blanked (reserved (sequences self.old)) reserve memory.old else memory.old) }
+    pub fn create(&mut self, memory: &mut [Phase], block: Block) -> Result<(), Fault>
+        ensures answer { result ≡ and_then (lent memory.old) (λ _. create_answer (sequences self.old) block.number block.reserve) }
+        ensures directory { sequences self.new ≡ (if is_ok result then appended (sequences self.old) block.number block.reserve else sequences self.old) }
+        ensures records { memory.new ≡ (if is_ok result then blanked (reserved (sequences self.old)) block.reserve memory.old else memory.old) }
     {
         whole(memory)?;
-        self.admits(number, reserve)?;
+        self.admits(block)?;
         let used = self.reserved();
-        blank_out(memory, used, reserve as usize);
-        self.append(Block { number, reserve });
+        blank_out(memory, used, usize::from(block.reserve));
+        self.append(block);
         Ok(())
     }
 
@@ -124,41 +124,35 @@ impl Directory {
     }
 
     // The record of a phase.
-    pub fn locate(&self, number: u8, np: u8) -> Result<usize, Fault>
-        ensures answer { result ≡ located (sequences self.now) number np }
+    pub fn locate(&self, at: Position) -> Result<usize, Fault>
+        ensures answer { result ≡ located (sequences self.now) at.sequence at.phase }
         ensures within { IfOk result (λ at. at < 414) }
     {
-        let Some(span) = self.find(number) else {
-            return Err(Fault::no_sequence());
-        };
-        if np == 0 || np as usize > span.reserve {
+        let span = self.find(at.sequence).ok_or(Fault::no_sequence())?;
+        let phase = usize::from(at.phase);
+        if phase == 0 || phase > span.reserve {
             return Err(Fault::past_reserve());
         }
-        Ok(span.offset + (np as usize - 1))
+        Ok(span.offset + (phase - 1))
     }
 
     // SP: writes one record.
-    pub fn write(&self, memory: &mut [Phase], number: u8, np: u8, phase: Phase) -> Result<(), Fault>
-        ensures answer { result ≡ and_then (lent memory.old) (λ _. write_answer (located (sequences self.now) number np)) }
-        ensures records { memory.new ≡ (if is_ok result then rewritten (located (sequences self.now) number np) phase memory.old else memory.old) }
+    pub fn write(&self, memory: &mut [Phase], at: Position, phase: Phase) -> Result<(), Fault>
+        ensures answer { result ≡ and_then (lent memory.old) (λ _. write_answer (located (sequences self.now) at.sequence at.phase)) }
+        ensures records { memory.new ≡ (if is_ok result then rewritten (located (sequences self.now) at.sequence at.phase) phase memory.old else memory.old) }
     {
         whole(memory)?;
-        let at = self.locate(number, np)?;
-        memory[at] = phase;
+        let record = self.locate(at)?;
+        memory[record] = phase;
         Ok(())
     }
 
     // RS: the phase, or none if it is unwritten.
-    pub fn read(&self, memory: &[Phase], number: u8, np: u8) -> Result<Option<Phase>, Fault>
-        ensures { result ≡ and_then (lent memory.now) (λ _. read_answer (located (sequences self.now) number np) memory.now) }
+    pub fn read(&self, memory: &[Phase], at: Position) -> Result<Option<Phase>, Fault>
+        ensures { result ≡ and_then (lent memory.now) (λ _. read_answer (located (sequences self.now) at.sequence at.phase) memory.now) }
     {
         whole(memory)?;
-        let at = self.locate(number, np)?;
-        let phase = memory[at];
-        Ok(if phase.is_written() {
-            Some(phase)
-        } else {
-            None
-        })
+        let record = self.locate(at)?;
+        Ok(Some(memory[record]).filter(Phase::is_written))
     }
 }

@@ -9,9 +9,8 @@ pub returns : goal.returns
 returns g c = λ records.
     let n = c.args.address in
     let d = c.new-device.result in
-    let m = g.O.StepOutput.meaning in
     let ok : is_ok c.set_address.result ≡ true = ap is_ok (c.set_address.ensures.answer ∙ cond-true _ (Ok tt) (Err wrong_address) (le-leb n 63 c.requires)) in
-    let r = c.set_address.ensures.rest records ∙ ap (λ b. cond b (addressed (rest_in m d records) n) (rest_in m d records)) ok ∙ ap (λ t. addressed t n) (c.new-device.ensures.rest records) in
+    let r = c.set_address.ensures.rest records ∙ ap (λ b. cond b (addressed (rest_in d records) n) (rest_in d records)) ok ∙ ap (λ t. addressed t n) (c.new-device.ensures.rest records) in
     let f = c.set_address.ensures.fault ∙ c.new-device.ensures.fault in
     let l = c.set_address.ensures.line ∙ ap (λ b. cond b (kept_of []) (kept d.receiver.line)) ok in
     λ i. record { core = record { rest = r i; fault = f i }; line = l i }

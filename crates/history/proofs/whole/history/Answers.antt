@@ -1,4 +1,4 @@
-use Rattle.std.proofs.Common.{◌≡◌, ◌<◌, false, [], ◌∷◌, ◌++◌, map, length, get_or, take, sym, refl, ap, ◌∙◌, ap₂, arith, rules}
+use Rattle.std.proofs.Common.{◌≡◌, ◌<◌, false, [], ◌∷◌, ◌++◌, map, length, get_or, take, sym, ap, ◌∙◌, ap₂, arith, rules}
 use Rattle.std.proofs.lemmas.List.{take_all, take_more_set, map_push, drop-set-lt}
 use Rattle.law.specs.Events.{event}
 use Rattle.law.specs.History.{State, next, answer, after, answers}
@@ -11,22 +11,16 @@ use Rattle.history.specs.Histories.{shown}
 use Rattle.history.proofs.Lawful.{module_law}
 use Rattle.history.proofs.whole.history.Goals as goal
 
-pub returns-then-not-accepts : goal.returns-then-not-accepts
-returns-then-not-accepts g c = record {
-  refused = search rules;
-  state = refl;
-  answers = search rules;
-  beyond = search rules;
-  law = module_law g.O.StepOutput.cycle c.args.address (g.O.StepOutput.meaning c.args.output) c.args.memory.now (map event c.args.calls.now) (g.met.O.StepOutput.bounded c.args.output);
-}
+pub returns-then-not-accepts-clause-law : goal.returns-then-not-accepts-clause-law
+returns-then-not-accepts-clause-law g c = module_law g.O.StepOutput.CYCLE c.args.address (g.O.StepOutput.meaning c.args.output) c.args.memory.now _ (g.met.O.StepOutput.bounded c.args.output)
 
 pub loop-i-preserved : goal.loop-i-preserved
 loop-i-preserved g c =
-    let y = g.O.StepOutput.cycle in
+    let y = g.O.StepOutput.CYCLE in
     let calls = c.args.calls.now in
     let i = c.loop-i.i in
     let d : Call = Character 0 false 0 0 in
-    let start : State (module_device y) = state_in y g.O.StepOutput.meaning c.begin-device.result c.args.memory.now in
+    let start : State (module_device y) = state_in y c.begin-device.result c.args.memory.now in
     let more : i < length calls = c.loop-i-test.true in
     let room : i < length c.loop-i.answers = omega arith in (
       search rules,
@@ -40,18 +34,17 @@ loop-i-preserved g c =
       drop-set-lt (length calls) c.loop-i.answers i c.perform.result more ∙ c.loop-i.invariant.4,
     )
 
-pub returns : goal.returns
-returns g c =
-    let y = g.O.StepOutput.cycle in
-    let calls = c.args.calls.now in
-    let i = c.loop-i.i in
-    let all_done : i ≡ length calls = omega arith in
-    let whole : take i calls ≡ calls = take_all i calls c.loop-i-test.false in
-    let fresh = c.begin-device.ensures c.args.memory.now in
-    record {
-      refused = search rules;
-      state = c.loop-i.invariant.2 ∙ ap₂ (λ s cs. after (module_device y) s (map event cs)) fresh whole;
-      answers = ap (λ n. map shown (take n c.loop-i.answers)) (sym all_done) ∙ (c.loop-i.invariant.3 ∙ ap₂ (λ s cs. answers (module_device y) s (map event cs)) fresh whole);
-      beyond = c.loop-i.invariant.4;
-      law = module_law y c.args.address (g.O.StepOutput.meaning c.args.output) c.args.memory.now (map event calls) (g.met.O.StepOutput.bounded c.args.output);
-    }
+pub returns-clause-state : goal.returns-clause-state
+returns-clause-state g c =
+    c.loop-i.invariant.2
+    ∙ ap₂ (λ s cs. after (module_device g.O.StepOutput.CYCLE) s (map event cs)) (c.begin-device.ensures c.args.memory.now) (take_all c.loop-i.i c.args.calls.now c.loop-i-test.false)
+
+pub returns-clause-answers : goal.returns-clause-answers
+returns-clause-answers g c =
+    let all_done : c.loop-i.i ≡ length c.args.calls.now = omega arith in
+    ap (λ n. map shown (take n c.loop-i.answers)) (sym all_done)
+    ∙ c.loop-i.invariant.3
+    ∙ ap₂ (λ s cs. answers (module_device g.O.StepOutput.CYCLE) s (map event cs)) (c.begin-device.ensures c.args.memory.now) (take_all c.loop-i.i c.args.calls.now c.loop-i-test.false)
+
+pub returns-clause-law : goal.returns-clause-law
+returns-clause-law g c = module_law g.O.StepOutput.CYCLE c.args.address (g.O.StepOutput.meaning c.args.output) c.args.memory.now _ (g.met.O.StepOutput.bounded c.args.output)

@@ -11,8 +11,8 @@ abbrev pub invariant-loop-i : goal.invariant-loop-i
 invariant-loop-i g l =
     (length l.calls ≤ length l.answers)
     × (length l.memory ≡ 414)
-    × (state_in g.O.StepOutput.cycle g.O.StepOutput.meaning l.device l.memory
-    ≡ after (module_device g.O.StepOutput.cycle) (state_in g.O.StepOutput.cycle g.O.StepOutput.meaning l.initial.device l.initial.memory) (map event (take l.i l.calls)))
+    × (state_in g.O.StepOutput.CYCLE l.device l.memory
+    ≡ after (module_device g.O.StepOutput.CYCLE) (state_in g.O.StepOutput.CYCLE l.initial.device l.initial.memory) (map event (take l.i l.calls)))
     × (map shown (take l.i l.answers)
-    ≡ answers (module_device g.O.StepOutput.cycle) (state_in g.O.StepOutput.cycle g.O.StepOutput.meaning l.initial.device l.initial.memory) (map event (take l.i l.calls)))
+    ≡ answers (module_device g.O.StepOutput.CYCLE) (state_in g.O.StepOutput.CYCLE l.initial.device l.initial.memory) (map event (take l.i l.calls)))
     × (drop (length l.calls) l.answers ≡ drop (length l.calls) l.initial.answers)

@@ -1,17 +1,14 @@
-use Rattle.std.proofs.Common.{refl, arith, rules}
-use Rattle.replies.proofs.Writes.{wrote_over, answered_long}
+use Rattle.std.proofs.Common.{ap, rules}
+use Rattle.replies.specs.Replies.{figures_of}
+use Rattle.replies.proofs.Writes.{wrote_then, wrote_as, answered_by}
 use Rattle.questions.specs.Questions.{fault_text}
 use Rattle.questions.proofs.fault_record.answer_fault.Goals as goal
 
-pub returns : goal.returns
-returns c =
-    record {
-      length = omega (arith, c.write_fault.ensures.len);
-      answer =
-          answered_long
-          (fault_text c.args.address c.args.fault)
-          c.args.out.now
-          (omega (arith, c.write_fault.ensures.wrote.len))
-          (let w = wrote_over c.write_fault.ensures.wrote refl in search rules)
-          (omega arith);
-    }
+pub returns-clause-answer : goal.returns-clause-answer
+unfolding fault_text
+returns-clause-answer c =
+    answered_by
+    (wrote_then (wrote_as c.figures.ensures.wrote (ap (figures_of 2) c.from.ensures))
+    (wrote_then c.text.ensures
+    (wrote_then c.write_cause.ensures.wrote c.text-2.ensures)))
+    c.new-reply.ensures.empty c.new-reply.ensures.buffer c.in_ok-check_room.ensures.room (search rules)

@@ -1,17 +1,16 @@
-use Rattle.std.proofs.Common.{refl, arith, rules}
-use Rattle.replies.proofs.Writes.{wrote_over, answered_long}
+use Rattle.std.proofs.Common.{ap, rules}
+use Rattle.replies.specs.Replies.{figures_of}
+use Rattle.replies.proofs.Writes.{wrote_then, wrote_as, answered_by}
 use Rattle.questions.specs.Questions.{parameters_text}
 use Rattle.questions.proofs.parameters.answer_parameters.Goals as goal
 
-pub returns : goal.returns
-returns c =
-    record {
-      length = omega (arith, c.write_parameters.ensures.len);
-      answer =
-          answered_long
-          (parameters_text c.args.address c.args.start_speed c.args.plateau_speed c.args.slope c.args.distance c.args.direction)
-          c.args.out.now
-          (omega (arith, c.write_parameters.ensures.wrote.len))
-          (let w = wrote_over c.write_parameters.ensures.wrote refl in search rules)
-          (omega arith);
-    }
+pub returns-clause-answer : goal.returns-clause-answer
+unfolding parameters_text
+returns-clause-answer c =
+    answered_by
+    (wrote_then (wrote_as c.figures.ensures.wrote (ap (figures_of 2) c.from.ensures))
+    (wrote_then c.text.ensures
+    (wrote_then c.write_speeds.ensures.wrote
+    (wrote_then c.text-2.ensures
+    (wrote_then c.write_distance.ensures.wrote c.text-3.ensures)))))
+    c.new-reply.ensures.empty c.new-reply.ensures.buffer c.in_ok-check_room.ensures.room (search rules)

@@ -13,21 +13,22 @@ whole xs i v h k = sym (at_drop_all (decimal_from v) xs i h) ∙ k
 not_empty : (xs : List ℕ) (o : Option ℕ) → eqb (length xs) 0 ≡ false → o ≡ decimal_from 0 xs → o ≡ decimal_of xs
 not_empty xs o e k = k ∙ sym (ap (λ b. cond b None (decimal_from 0 xs)) e)
 
-pub returns-in_default : goal.returns-in_default
-returns-in_default c =
+pub returns-in_err-n : goal.returns-in_err-n
+returns-in_err-n c =
     let xs = c.args.text.now in
     let e : eqb (length xs) 0 ≡ false = search rules in
     let f : None ≡ figure_of (get_or xs c.loop-c.c-index 0) = search rules in
-    not_empty xs None e (further xs c.loop-c.c-index c.loop-c.value None c.loop-c-test.true f c.loop-c.invariant)
+    let r : ◌≡◌ {A = Option ℕ} c.from_residual.result None = search rules in
+    r ∙ not_empty xs None e (further xs c.loop-c.c-index c.loop-c.value None c.loop-c-test.true f c.loop-c.invariant)
 
 pub loop-c-preserved : goal.loop-c-preserved
 loop-c-preserved c =
     let xs = c.args.text.now in
     let i = c.loop-c.c-index in
     let v = c.loop-c.value in
-    let f : Some c.in-Some.n ≡ figure_of (get_or xs i 0) = search rules in
-    let g : c.saturating_add-value.result ≡ grown v c.in-Some.n = search rules in
-    ap (λ w. decimal_from w (drop (i + 1) xs)) g ∙ further xs i v (Some c.in-Some.n) c.loop-c-test.true f c.loop-c.invariant
+    let f : Some c.in_ok-n.n ≡ figure_of (get_or xs i 0) = search rules in
+    let g : c.saturating_add-value.result ≡ grown v c.in_ok-n.n = search rules in
+    ap (λ w. decimal_from w (drop (i + 1) xs)) g ∙ further xs i v (Some c.in_ok-n.n) c.loop-c-test.true f c.loop-c.invariant
 
 pub returns : goal.returns
 returns c =

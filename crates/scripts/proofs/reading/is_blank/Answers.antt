@@ -1,23 +1,8 @@
-use Rattle.std.proofs.Common.{◌≡◌, ℕ, ◌+◌, ◌<◌, Bool, true, false, ◌&&◌, eqb, List, length, get_or, drop, sym, ap, ◌∙◌, rules}
-use Rattle.std.proofs.lemmas.List.{at_drop_more, at_drop_all}
-use Rattle.scripts.specs.PassedOver.{blank}
+use Rattle.std.proofs.Common.{◌==◌, rules}
+use borrow.Author.Tests.{tests}
+use Rattle.std.proofs.lemmas.Iterator.{YieldsList-from_slice}
+use Rattle.std.proofs.lemmas.Iterator.Search.{all_from_yields_List}
 use Rattle.scripts.proofs.reading.is_blank.Goals as goal
 
--- what is left, by the next character
-further : (xs : List ℕ) (i : ℕ) (b : Bool) → i < length xs → eqb (get_or xs i 0) 32 ≡ b → blank (drop i xs) ≡ blank xs → b && blank (drop (i + 1) xs) ≡ blank xs
-further xs i b h e k = sym (ap (λ a. a && blank (drop (i + 1) xs)) e) ∙ sym (at_drop_more blank xs i 0 h) ∙ k
-
-pub returns-then-c-ne32 : goal.returns-then-c-ne32
-returns-then-c-ne32 c =
-    let xs = c.args.line.now in
-    let e : eqb (get_or xs c.loop-c.c-index 0) 32 ≡ false = search rules in
-    further xs c.loop-c.c-index false c.loop-c-test.true e c.loop-c.invariant
-
-pub loop-c-preserved : goal.loop-c-preserved
-loop-c-preserved c =
-    let xs = c.args.line.now in
-    let e : eqb (get_or xs c.loop-c.c-index 0) 32 ≡ true = search rules in
-    further xs c.loop-c.c-index true c.loop-c-test.true e c.loop-c.invariant
-
 pub returns : goal.returns
-returns c = sym (at_drop_all blank c.args.line.now c.loop-c.c-index c.loop-c-test.false) ∙ c.loop-c.invariant
+returns c = all_from_yields_List (λ c. c == 32) _ _ _ c.all.ensures.ran (YieldsList-from_slice c.args.line.now cc) (λ x b q k. search (rules, tests))

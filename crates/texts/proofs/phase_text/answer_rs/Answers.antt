@@ -1,18 +1,16 @@
-use Rattle.std.proofs.Common.{refl, arith, rules}
-use Rattle.replies.proofs.Writes.{wrote_over, answered_long}
+use Rattle.std.proofs.Common.{ap, rules}
+use Rattle.replies.specs.Replies.{figures_of}
+use Rattle.replies.proofs.Writes.{wrote_then, wrote_as, answered_by}
 use Rattle.texts.specs.Texts.{rs_text}
 use Rattle.texts.proofs.phase_text.answer_rs.Goals as goal
 
-pub returns : goal.returns
-returns c =
-    record {
-      back = c.write_reply.ensures.back;
-      length = omega (arith, c.write_reply.ensures.len);
-      answer =
-          answered_long
-          (rs_text c.args.address c.args.ns c.args.np c.args.p.now)
-          c.args.out.now
-          (omega (arith, c.write_reply.ensures.wrote.len))
-          (let w = wrote_over c.write_reply.ensures.wrote refl in search rules)
-          c.if-out-lt80.false;
-    }
+pub returns-clause-answer : goal.returns-clause-answer
+unfolding rs_text
+returns-clause-answer c =
+    answered_by
+    (wrote_then
+    (wrote_then
+    (wrote_then (wrote_as c.figures.ensures.wrote (ap (figures_of 2) c.from.ensures)) c.text.ensures)
+    c.write_found.ensures.wrote)
+    c.text-2.ensures)
+    c.new-reply.ensures.empty c.new-reply.ensures.buffer c.in_ok-check_room.ensures.room (search rules)

@@ -9,7 +9,7 @@ unfolding course_words
 returns c =
     let l = c.args.p.now.link in
     record {
-      bytes = (search rules, c.write_outputs.ensures.byte);
+      bytes = (c.write_marks.ensures.byte, c.write_outputs.ensures.byte);
       wrote =
           wrote_as
           (wrote_then c.write_link.ensures.wrote

@@ -1,8 +1,8 @@
-use Rattle.std.proofs.Common.{◌≡◌, [], ◌∷◌, nat_abs, ap, ◌∙◌, w32, SFits, to_z, of_z, rules}
+use Rattle.std.proofs.Common.{◌≡◌, ap, w32, SFits, to_z, of_z, rules}
 use Rattle.std.proofs.lemmas.Int.{to_z-of_z}
-use Rattle.replies.specs.Replies.{figures_of}
+use Rattle.replies.specs.Replies.{signed_of}
 use Rattle.replies.proofs.Writes.{wrote_then, wrote_as}
-use Rattle.texts.specs.Texts.{sign_of, motion_words}
+use Rattle.texts.specs.Texts.{motion_words}
 use Rattle.texts.proofs.phase_text.write_motion.Goals as goal
 
 pub returns : goal.returns
@@ -17,7 +17,6 @@ returns c =
           (wrote_then c.text-2.ensures
           (wrote_then (wrote_as c.text-3.ensures c.nature_letters.ensures)
           (wrote_then c.text-4.ensures
-          (wrote_then (wrote_as c.put.ensures (ap (λ b. b ∷ []) (c.sign.ensures ∙ ap sign_of same)))
-          (wrote_as c.figures.ensures.wrote (ap (figures_of 7) (c.unsigned_abs.ensures.value ∙ ap nat_abs same)))))));
+          (wrote_as c.signed.ensures.wrote (ap (signed_of 7) same)))));
       len = search rules;
     }

@@ -18,6 +18,6 @@ returns c =
           (wrote_then c.text-2.ensures
           (wrote_then c.write_motion.ensures.wrote
           (wrote_then c.text-3.ensures c.write_course.ensures.wrote))))))
-          (ap (λ t. figures_of 2 c.args.ns ++ 32 ∷ (figures_of 2 c.args.np ++ 32 ∷ t)) (parts_joined c.args.p.now));
+          (ap (λ t. figures_of 2 c.args.at.sequence ++ 32 ∷ (figures_of 2 c.args.at.phase ++ 32 ∷ t)) (parts_joined c.args.p.now));
       len = search rules;
     }

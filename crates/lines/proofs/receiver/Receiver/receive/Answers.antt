@@ -1,6 +1,6 @@
-use Rattle.std.proofs.Common.{◌∙◌}
+use Rattle.std.proofs.Common.{rules}
 use Rattle.lines.proofs.KeptOf.{kept_going}
 use Rattle.lines.proofs.receiver.Receiver.receive.Goals as goal
 
-pub returns : goal.returns
-returns c = record { line = c.step.ensures.line; rest = c.step.ensures.rest; list = λ cs e. c.step.ensures.rest ∙ kept_going _ cs (c.args.byte, c.args.damaged) e }
+pub returns-in_default-clause-list : goal.returns-in_default-clause-list
+returns-in_default-clause-list c = λ cs e. search (rules, kept_going _ cs (c.args.byte, c.args.damaged) e)

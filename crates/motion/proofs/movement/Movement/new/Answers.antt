@@ -9,14 +9,14 @@ use Rattle.motion.proofs.movement.Movement.new.Goals as goal
 pub returns : goal.returns
 returns c =
     let m : Motion = record {
-      sense = c.args.sense;
-      left = c.args.steps;
+      sense = c.args.distance.sense;
+      left = c.args.distance.steps;
       ramp = 0;
       up = 0;
       accumulated = 0;
-      start = c.args.parameters.start;
-      plateau = c.max.result;
-      top = 40 * c.args.parameters.slope;
+      start = c.args.parameters.start.value;
+      plateau = c.at_least.result.value;
+      top = 40 * c.from.result;
       constant = c.args.constant;
       stopping = false;
     } in

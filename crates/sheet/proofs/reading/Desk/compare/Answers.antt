@@ -1,19 +1,14 @@
-use Rattle.std.proofs.Common.{[], ◌∷◌, ◌++◌, take, vec_items, sym, ap, ◌∙◌, take_all}
-use Rattle.std.proofs.lemmas.List.{map_push, take_more}
+use Rattle.std.proofs.Common.{◌≡◌, List, IfOk, vec_items, subst, rules}
+use Rattle.std.proofs.lemmas.Iterator.{YieldsList-from_slice, YieldsList-from_map_by}
+use Rattle.std.proofs.lemmas.Iterator.Consumers.{map_from_collect}
+use Rattle.std.proofs.lemmas.List.{map-id}
 use Rattle.sheet.specs.declared.verdict.ShelfPhase.{ShelfPhase}
+use Rattle.sheet.specs.declared.shelf.Meant.{Meant}
 use Rattle.sheet.specs.Desks.{meant_in}
 use Rattle.sheet.proofs.reading.Desk.compare.Goals as goal
 
-pub loop-meant-preserved : goal.loop-meant-preserved
-loop-meant-preserved c =
-    let qs = c.as_slice-shelf.result.now in
-    let i = c.loop-meant.meant-index in
-    let q = c.meant-item.result in
-    ap meant_in c.in_ok-push.ensures.items
-    ∙ map_push (λ (p : ShelfPhase). p.meant) (vec_items c.loop-meant.compared) _
-    ∙ ap (λ l. l ++ q ∷ []) c.loop-meant.invariant
-    ∙ ap (λ y. take i qs ++ y ∷ []) c.meant-item.is
-    ∙ sym (take_more qs i q c.loop-meant-test.true)
-
 pub returns : goal.returns
-returns c = c.loop-meant.invariant ∙ take_all c.loop-meant.meant-index c.as_slice-shelf.result.now c.loop-meant-test.false ∙ c.as_slice-shelf.ensures.value
+returns c =
+    let qs = c.args.self.now.notes.shelf.items in
+    let P : List Meant → Type 0 = λ l. IfOk c.collect.result (λ v. meant_in (vec_items v) ≡ l) in
+    subst P (map-id qs) (map_from_collect _ c.collect.ensures.ran (YieldsList-from_map_by _ (λ (p : ShelfPhase). p.meant) (λ (q : Meant). q) (YieldsList-from_slice qs (cc)) c.map.ensures.closure (λ x r q k. search rules)))

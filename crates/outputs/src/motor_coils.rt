@@ -1,0 +1,18 @@
+// The coils of a motor: a place among 2^24, as an index into the cycle of the drive and a number of whole cycles, and power.
+ghost use Rattle.std.specs.Prelude.{◌+◌, ◌*◌, ◌^◌, ◌<◌, ◌≤◌};
+
+use crate::drive::Drive;
+use std::marker::PhantomData;
+
+mod cycle;
+mod output;
+
+#[derive(Drop)]
+pub struct MotorCoils<D: Drive> {
+    index: u32,
+    cycles: u32,
+    power: bool,
+    drive: PhantomData<D>,
+    ghost index_below: { index < D.Drive.CYCLE },
+    ghost place_below: { cycles * D.Drive.CYCLE + D.Drive.CYCLE ≤ 2 ^ 24 },
+}
