@@ -109,7 +109,7 @@ pub fn read_command(text: &[u8], broadcast: bool) -> Result<Command, Fault>
     arguments(&mut reader, name)
 }
 
-// The command behind the first `from` characters of a line.
+// The command behind the first `from` characters of a line: behind the address, or a broadcast from its first letter.
 #[tactic(auto, unfolding(crate::specs::Reading::command_behind))]
 fn command_behind(line: &Line, from: usize, broadcast: bool) -> Result<Command, Fault>
     ensures { result ≡ command_behind from broadcast (kept line.now) }

@@ -1,5 +1,5 @@
 -- What an accepted order does: to the state, to the records, and to the axis.
-use Rattle.std.specs.Prelude.{ℕ, false, cond, ◌||◌, List, ℤ, pos, is_ok, Some, None, Option, ◌==◌}
+use Rattle.std.specs.Prelude.{ℕ, false, cond, List, ℤ, pos, is_ok, Some, None, Option, ◌==◌}
 use Rattle.std.specs.Option.{unwrap_or}
 use Rattle.faults.specs.Faults.{and_then}
 use Rattle.senses.specs.declared.Sense.TheVariants as sense
@@ -44,10 +44,11 @@ abbrev pub restarted : State → Option ℕ → State
 restarted s None = ended s
 restarted s (Some n) = with_doing (ended s) (running (started n))
 
--- SE drops the choice of the sequence, and with 0 every choice
-abbrev pub choice_without : ℕ → Option ℕ → Option ℕ
-choice_without n None = None
-choice_without n (Some c) = cond (n == 0 || c == n) None (Some c)
+-- SE drops the choice of the sequence; where it erases all, it drops every choice
+abbrev pub choice_without : Option ℕ → Option ℕ → Option ℕ
+choice_without None chosen = None
+choice_without (Some n) None = None
+choice_without (Some n) (Some c) = cond (c == n) None (Some c)
 
 -- the settings, the outputs, the choice, movements and runs
 abbrev pub acted : State → ℤ → Order → State

@@ -58,10 +58,11 @@ fn restart_change(chosen: Option<u8>) -> Change
 }
 
 // Erasing the chosen sequence, or all of them, drops the choice.
-fn choice_without(chosen: Option<u8>, number: u8) -> Option<u8>
-    ensures { result ≡ choice_without number chosen }
+fn choice_without(chosen: Option<u8>, erased: Option<u8>) -> Option<u8>
+    ensures { result ≡ choice_without erased chosen }
 {
-    chosen.filter(|choice| number != 0 && *choice != number)
+    let number = erased?;
+    chosen.filter(|choice| *choice != number)
 }
 
 // A sequence that starts.
@@ -160,9 +161,9 @@ impl Control {
             Order::Create(block) => {
                 let _ = self.directory.create(memory, block);
             }
-            Order::Erase { number } => {
-                let _ = self.directory.erase(memory, number);
-                self.chosen = choice_without(self.chosen, number);
+            Order::Erase(sequence) => {
+                let _ = self.directory.erase(memory, sequence);
+                self.chosen = choice_without(self.chosen, sequence);
             }
             Order::Write { at, phase } => {
                 let _ = self.directory.write(memory, at, phase);

@@ -26,7 +26,7 @@ impl Settings {
         }
     }
 
-    // Sets the speeds and the slope, where they are within their limits.
+    // Sets the speeds and the slope, where they are within their limits: the three numbers that `Parameters::new` tests.
     pub(crate) fn set_parameters(&mut self, start: u16, plateau: u16, slope: u16)
         ensures { settings self.new ≡ with_values (settings self.old) (unwrap_or (values_within start plateau slope) (values self.old.parameters)) }
     {

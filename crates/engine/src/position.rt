@@ -4,7 +4,7 @@ ghost use Rattle.engine.specs.Positions.{first_of, following, next_of};
 
 use phases::Position;
 
-// As NS it ends the run.
+// As NS it ends the run: a number as in the record, which a caller may lend with any.
 const END: u8 = 54;
 
 pub(crate) fn first_of(sequence: u8) -> Position

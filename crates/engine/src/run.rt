@@ -1,4 +1,4 @@
-// A run of a sequence.
+// A run of a sequence. A phase is the run's own and `here` is what it reads, so that the two go through its methods side by side.
 ghost use Rattle.std.specs.Prelude.{◌≡◌};
 ghost use Rattle.engine.specs.Progress.{progress, outcome, activity_of, stays};
 

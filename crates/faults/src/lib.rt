@@ -87,6 +87,7 @@ impl fmt::Display for Place {
     }
 }
 
+// One constructor for each refusal: its cause, place and word stand together once, and a caller names what happened.
 impl Fault {
     // The line has over 64 characters, or one of them is damaged.
     pub fn bad_line() -> Fault

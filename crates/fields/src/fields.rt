@@ -89,7 +89,7 @@ fn set_point_of(word: Placed) -> Option<i64>
     }
 }
 
-// Whether a mark names its input, and whether it asks for the high level.
+// Whether a mark names its input, and whether it asks for the high level: as bits, which are added up.
 fn mark_of(mark: u8) -> Option<(u8, u8)>
     ensures { result ≡ (if is_mark mark then Some (named_by mark, level_by mark) else None) }
 {

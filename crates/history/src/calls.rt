@@ -7,6 +7,7 @@ ghost use Rattle.history.specs.Histories.{shown};
 use crate::answer::{Answer, Reply};
 use faults::Fault;
 use law::Call;
+use lines::Character;
 use module::Module;
 use outputs::StepOutput;
 use phases::Phase;
@@ -16,16 +17,15 @@ const ROOM: usize = 80;
 // The character call with a reply buffer of `room` bytes.
 fn character<O: StepOutput>(
     device: &mut Module<O>,
-    byte: u8,
-    damaged: bool,
+    character: Character,
     room: usize,
     memory: &mut [Phase],
 ) -> Result<Answer, Fault>
-    ensures state { state_in O.CYCLE device.new memory.new ≡ state_after O.CYCLE device.old memory.old (handed (length memory.old) (with_room room (arrived byte damaged))) }
-    ensures shown { shown result ≡ answer_to O.CYCLE device.old memory.old (handed (length memory.old) (with_room room (arrived byte damaged))) }
+    ensures state { state_in O.CYCLE device.new memory.new ≡ state_after O.CYCLE device.old memory.old (handed (length memory.old) (with_room room (arrived character.byte character.damaged))) }
+    ensures shown { shown result ≡ answer_to O.CYCLE device.old memory.old (handed (length memory.old) (with_room room (arrived character.byte character.damaged))) }
 {
     let mut bytes = [0u8; ROOM];
-    let length = device.character(byte, damaged, memory, &mut bytes[0..room.min(ROOM)])?;
+    let length = device.character(character, memory, &mut bytes[0..room.min(ROOM)])?;
     Ok(Answer::Reply(Reply { length, bytes }))
 }
 
@@ -40,11 +40,10 @@ fn hand<O: StepOutput>(
 {
     match call {
         Call::Character {
-            byte,
-            damaged,
+            character: received,
             room,
             ..
-        } => character(device, byte, damaged, room, memory),
+        } => character(device, received, room, memory),
         Call::Tick { .. } => {
             let (step, busy) = device.tick(memory)?;
             Ok(Answer::Ticked(step, busy))

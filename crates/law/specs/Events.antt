@@ -28,13 +28,13 @@ received byte false =
 
 -- how many phase records a call is handed, and what it is where these are 414
 abbrev pub lent_to : Call → ℕ
-lent_to (call.Character byte damaged room lent) = lent
+lent_to (call.Character character room lent) = lent
 lent_to (call.Tick lent) = lent
 lent_to (call.Levels value lent) = lent
 lent_to (call.PowerUp lent) = lent
 
 abbrev pub asked : Call → Event
-asked (call.Character byte damaged room lent) = with_room room (received byte damaged)
+asked (call.Character character room lent) = with_room room (received character.byte character.damaged)
 asked (call.Tick lent) = tick
 asked (call.Levels value lent) = levels value
 asked (call.PowerUp lent) = power_up

@@ -1,8 +1,10 @@
 // What comes off the serial line: characters gathered into lines, and whom a line is for.
 #![tactic(auto)]
 
+mod character;
 mod line;
 mod receiver;
 
+pub use character::Character;
 pub use line::{Addressee, Line};
 pub use receiver::Receiver;

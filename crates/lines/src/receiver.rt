@@ -1,9 +1,10 @@
 // The receiver: gathers characters until a line ends.
 ghost use Rattle.std.specs.Prelude.{◌≡◌, List, []};
 ghost use Rattle.std.specs.Option.{option_map};
-ghost use Rattle.lines.specs.Characters.{Character, unfinished};
+ghost use Rattle.lines.specs.Characters.{Character as Arrival, unfinished};
 ghost use Rattle.lines.specs.Lines.{kept, kept_of, ended, going};
 
+use crate::character::Character;
 use crate::line::Line;
 use std::mem;
 
@@ -33,16 +34,22 @@ impl Receiver {
 
     // Takes a character. An undamaged 0Dh ends the line, which is answered; an undamaged 0Ah is
     // skipped; every other character belongs to the line.
-    pub fn receive(&mut self, byte: u8, damaged: bool) -> Option<Line>
-        ensures line { option_map kept result ≡ ended (kept self.old.line) (byte, damaged) }
-        ensures rest { kept self.new.line ≡ going (kept self.old.line) (byte, damaged) }
-        ensures list { (cs : List Character) → kept self.old.line ≡ kept_of cs → kept self.new.line ≡ kept_of (unfinished cs (byte, damaged)) }
+    pub fn receive(&mut self, character: Character) -> Option<Line>
+        ensures line { option_map kept result ≡ ended (kept self.old.line) (character.byte, character.damaged) }
+        ensures rest { kept self.new.line ≡ going (kept self.old.line) (character.byte, character.damaged) }
+        ensures list { (cs : List Arrival) → kept self.old.line ≡ kept_of cs → kept self.new.line ≡ kept_of (unfinished cs (character.byte, character.damaged)) }
     {
-        match byte {
-            CARRIAGE_RETURN if !damaged => Some(mem::replace(&mut self.line, Line::new())),
-            LINE_FEED if !damaged => None,
+        match character {
+            Character {
+                byte: CARRIAGE_RETURN,
+                damaged: false,
+            } => Some(mem::replace(&mut self.line, Line::new())),
+            Character {
+                byte: LINE_FEED,
+                damaged: false,
+            } => None,
             _ => {
-                self.line.take(byte, damaged);
+                self.line.take(character);
                 None
             }
         }

@@ -9,7 +9,7 @@ ghost use Rattle.loader.specs.Loading.{state, state_of, made_at, carried, carrie
 
 use crate::order::{Done, Order, read_order};
 use faults::Fault;
-use lines::{Line, Receiver};
+use lines::{Character, Line, Receiver};
 use phases::{Phase, Position};
 use store::Directory;
 
@@ -56,8 +56,8 @@ impl Loader {
                 self.directory.create(memory, block)?;
                 Ok(Done::Stored)
             }
-            Order::Erase { number } => {
-                self.directory.erase(memory, number)?;
+            Order::Erase(sequence) => {
+                self.directory.erase(memory, sequence)?;
                 Ok(Done::Stored)
             }
             Order::Write { at, phase } => {
@@ -88,14 +88,14 @@ impl Loader {
     }
 
     // Takes a character; where it ends a line, answers what became of the line.
-    pub fn character(&mut self, memory: &mut [Phase], byte: u8, damaged: bool) -> Option<Outcome>
-        ensures answer { result ≡ outcome_ended (state self.old) memory.old (ended (state self.old).line (byte, damaged)) }
-        ensures blocks { (state self.new).blocks ≡ blocks_ended (state self.old) memory.old (ended (state self.old).line (byte, damaged)) }
-        ensures records { memory.new ≡ records_ended (state self.old) memory.old (ended (state self.old).line (byte, damaged)) }
-        ensures line { (state self.new).line ≡ going (state self.old).line (byte, damaged) }
+    pub fn character(&mut self, memory: &mut [Phase], character: Character) -> Option<Outcome>
+        ensures answer { result ≡ outcome_ended (state self.old) memory.old (ended (state self.old).line (character.byte, character.damaged)) }
+        ensures blocks { (state self.new).blocks ≡ blocks_ended (state self.old) memory.old (ended (state self.old).line (character.byte, character.damaged)) }
+        ensures records { memory.new ≡ records_ended (state self.old) memory.old (ended (state self.old).line (character.byte, character.damaged)) }
+        ensures line { (state self.new).line ≡ going (state self.old).line (character.byte, character.damaged) }
         ensures address { (state self.new).address ≡ (state self.old).address }
     {
-        let line = self.receiver.receive(byte, damaged)?;
+        let line = self.receiver.receive(character)?;
         Some(self.line(memory, &line))
     }
 

@@ -14,7 +14,7 @@ use values::{address_values, erase_value, sp_values};
 #[derive(Clone, Copy)]
 pub enum Order {
     Create(Block),
-    Erase { number: u8 },
+    Erase(Option<u8>),
     Write { at: Position, phase: Phase },
     Read(Position),
     Other,
@@ -29,7 +29,8 @@ pub enum Done {
     Other,
 }
 
-// The values of a command held against their limits.
+// The values of a command held against their limits. The same arms stand in the row of values of `orders`, beside twenty others: one
+// function for both would hand back what each takes apart again.
 fn order_of(command: Command) -> Result<Order, Fault>
     ensures { result ≡ order_of command }
 {
@@ -41,10 +42,7 @@ fn order_of(command: Command) -> Result<Order, Fault>
                 reserve: phase,
             }))
         }
-        Command::Erase(sequence) => {
-            let number = erase_value(sequence)?;
-            Ok(Order::Erase { number })
-        }
+        Command::Erase(n) => Ok(Order::Erase(erase_value(n)?)),
         Command::Write(raw) => {
             let (at, phase) = sp_values(raw)?;
             Ok(Order::Write { at, phase })
@@ -58,8 +56,5 @@ fn order_of(command: Command) -> Result<Order, Fault>
 pub fn read_order(line: &Line, address: u8) -> Option<Result<Order, Fault>>
     ensures { result ≡ order_in address (kept line.now) }
 {
-    match read_line(line, address)? {
-        Ok(command) => Some(order_of(command)),
-        Err(fault) => Some(Err(fault)),
-    }
+    read_line(line, address).map(|command| command.and_then(order_of))
 }

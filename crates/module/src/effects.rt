@@ -26,7 +26,7 @@ pub(crate) fn change<O: StepOutput>(axis: &mut Axis<O>, change: Change)
     switch(axis, change.power);
 }
 
-// Asks for a step, if one is due, and answers what was made.
+// Asks for a step, if one is due, and answers what was made, as a number that can be added to a place.
 fn step<O: StepOutput>(axis: &mut Axis<O>, due: Option<Sense>) -> i8
     ensures made { result ≡ step_made due axis.old.state }
     ensures axis { axis.new.state ≡ stepped due axis.old.state }
@@ -37,7 +37,7 @@ fn step<O: StepOutput>(axis: &mut Axis<O>, due: Option<Sense>) -> i8
     if axis.step(sense) { signed(sense) } else { 0 }
 }
 
-// What a tick does to the axis; answers the step made.
+// What a tick does to the axis; answers the step made, as a number.
 pub(crate) fn affect<O: StepOutput>(axis: &mut Axis<O>, effects: &Effects) -> i8
     ensures made { result ≡ step_of effects.now axis.old.state }
     ensures axis { axis.new.state ≡ affected effects.now axis.old.state }

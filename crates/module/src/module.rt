@@ -1,4 +1,5 @@
-// The module over a step output.
+// The module over a step output. The records and the reply buffer are lent by the caller for one call each, so that they go through
+// the methods side by side.
 use axis::Axis;
 use control::Control;
 use faults::Fault;

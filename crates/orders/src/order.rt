@@ -20,7 +20,7 @@ pub enum Order {
     PowerOff,
     SetOutputs(u8),
     Create(Block),
-    Erase { number: u8 },
+    Erase(Option<u8>),
     Choose { number: u8 },
     Start { number: u8 },
     Write { at: Position, phase: Phase },

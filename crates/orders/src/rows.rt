@@ -28,6 +28,7 @@ fn order(command: Command, at: Situation, directory: &Directory) -> Result<Order
 pub fn judge(line: &Line, at: Situation, directory: &Directory) -> Option<Result<Order, Fault>>
     ensures { result ≡ judged at (sequences directory.now) (kept line.now) }
 {
+    // With `and_then` and a closure the proof did not close.
     match read_line(line, at.address)? {
         Ok(command) => Some(order(command, at, directory)),
         Err(fault) => Some(Err(fault)),

@@ -1,4 +1,4 @@
-// The row values: each number within its limits, the leftmost word first.
+// The row values: each number within its limits, the leftmost word first. Each kind of number has its name and one call of `within`.
 ghost use Rattle.std.specs.Prelude.{◌≡◌};
 ghost use Rattle.orders.specs.Values.{speed as speed_of, start_speed, plateau_speed, slope as slope_of, distance as distance_of, position as position_of, outputs as outputs_of, sequence as sequence_of, values_row};
 
@@ -99,22 +99,10 @@ pub(crate) fn check_values(command: Command, at: Situation) -> Result<Order, Fau
                 reserve: phase,
             }))
         }
-        Command::Erase(n) => {
-            let number = erase_value(n)?;
-            Ok(Order::Erase { number })
-        }
-        Command::Choose(n) => {
-            let number = sequence(n)?;
-            Ok(Order::Choose { number })
-        }
-        Command::Start(n) => {
-            let number = sequence(n)?;
-            Ok(Order::Start { number })
-        }
-        Command::Write(raw) => {
-            let (at, phase) = sp_values(raw)?;
-            Ok(Order::Write { at, phase })
-        }
+        Command::Erase(n) => Ok(Order::Erase(erase_value(n)?)),
+        Command::Choose(n) => sequence(n).map(|number| Order::Choose { number }),
+        Command::Start(n) => sequence(n).map(|number| Order::Start { number }),
+        Command::Write(raw) => sp_values(raw).map(|(at, phase)| Order::Write { at, phase }),
         Command::ReadPhase(address) => Ok(Order::ReadPhase(address_values(address)?)),
         Command::Restart => Ok(Order::Restart),
         Command::ReadParameters => Ok(Order::ReadParameters),

@@ -31,7 +31,8 @@ fn status_of(outcome: Result<(), Failed>) -> ExitCode
 }
 
 impl Program<'_> {
-    // Does what the arguments behind the program's name ask for.
+    // Does what the arguments behind the program's name ask for. No clause can say which arguments the system gives, or that it gives
+    // them, so that status 0 is pinned, and status 1 is not.
     pub fn run<F: FnOnce(&[String]) -> Result<(), Failed>>(&self, follow: F) -> ExitCode
         requires { F.IsAlwaysCallable follow }
         ensures done { exit_status result ≡ 0 → (words : _) × F.post follow words (Ok tt) }
@@ -89,7 +90,8 @@ impl Program<'_> {
         Ok(bytes)
     }
 
-    // Does the program's work on the bytes of a file, with the name that is printed for the file.
+    // Does the program's work on the bytes of a file, with the name that is printed for the file. No clause can say what a file holds,
+    // or that it can be read.
     pub fn with_file<F: FnOnce(&str, &[u8]) -> Result<(), Failed>>(
         &self,
         file: &str,

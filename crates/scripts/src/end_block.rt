@@ -10,7 +10,7 @@ use store::Block;
 use texts::answer_rs;
 
 impl Transcript {
-    // The end block of a module over its memory.
+    // The end block of a module over its memory, which is lent beside the snapshot.
     pub(crate) fn state(&mut self, now: &Snapshot, memory: &[Phase]) -> Result<(), AllocError> {
         self.end(now)?;
         self.parameters(now)?;
@@ -20,7 +20,6 @@ impl Transcript {
 
     fn end(&mut self, now: &Snapshot) -> Result<(), AllocError> {
         let counter = now.counter;
-        let sign = if counter >= 0 { "+" } else { "" };
         let place = now.place;
         let power = if now.power { "on" } else { "off" };
         let outputs = now.control.outputs;
@@ -28,7 +27,7 @@ impl Transcript {
         let busy = u8::from(now.control.busy());
         let fault = FaultText(now.fault);
         let line = format!(in self.heap;
-            "end: counter {sign}{counter} place {place} power {power} outputs {outputs:02X} levels {levels:02X} busy {busy} fault {fault}\n"
+            "end: counter {counter:+} place {place} power {power} outputs {outputs:02X} levels {levels:02X} busy {busy} fault {fault}\n"
         )?;
         self.add(line.as_bytes())
     }
@@ -40,6 +39,7 @@ impl Transcript {
         let plateau = settings.parameters.plateau_speed();
         let slope = settings.parameters.slope();
         let distance = settings.distance;
+        // One letter of this line alone.
         let direction = match settings.direction {
             Sense::Forward => "+",
             Sense::Back => "-",

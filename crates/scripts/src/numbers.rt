@@ -2,7 +2,7 @@
 ghost use Rattle.std.specs.Prelude.{◌≡◌};
 ghost use Rattle.scripts.specs.Numbers.{figure_of, decimal_of, hex_figure_of, hexadecimal_of};
 
-// What a decimal figure counts.
+// What a decimal figure counts, of a byte: `to_digit` goes by characters, and would need a cast back and forth.
 fn figure(c: u8) -> Option<u8>
     ensures { result ≡ figure_of c }
 {
@@ -27,7 +27,7 @@ pub fn read_decimal(text: &[u8]) -> Option<u64>
     Some(value)
 }
 
-// What a hexadecimal figure counts.
+// What a hexadecimal figure counts, capital or small, of a byte as well.
 fn hex_figure(c: u8) -> Option<u8>
     ensures { result ≡ hex_figure_of c }
 {

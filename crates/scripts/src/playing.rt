@@ -6,7 +6,7 @@ use history::{Answer, Call, history};
 use outputs::{FullStepCoils, HalfStepCoils, PulseOutput};
 use phases::Phase;
 
-// Plays a history over one output, and answers what the module is then.
+// Plays a history over one output, and answers what the module is then. It hands on the arguments of `history`.
 fn play_on<O: ShownOutput + Drop>(
     output: O,
     address: u8,

@@ -7,6 +7,7 @@ use crate::numbers::{read_decimal, read_hexadecimal};
 use crate::scene::{RECORDS, ROOM};
 use crate::step::{Output, Step};
 use history::Call;
+use lines::Character;
 use words::cut;
 
 // Nothing but blanks.
@@ -32,8 +33,7 @@ fn read_character(text: &[u8], room: usize, lent: usize) -> Option<Call> {
         Some(_) => return None,
     };
     Some(Call::Character {
-        byte,
-        damaged,
+        character: Character { byte, damaged },
         room,
         lent,
     })

@@ -5,6 +5,7 @@ use crate::snapshot::Snapshot;
 use crate::step::Output;
 use faults::Fault;
 use history::{Answer, Call};
+use lines::Character;
 use phases::Phase;
 use std::alloc::{AllocError, Global};
 
@@ -72,8 +73,10 @@ impl<'a> Scene<'a> {
 
     fn character(&mut self, byte: u8) -> Result<(), AllocError> {
         self.calls.push(Call::Character {
-            byte,
-            damaged: false,
+            character: Character {
+                byte,
+                damaged: false,
+            },
             room: ROOM,
             lent: RECORDS,
         })?;

@@ -23,6 +23,7 @@ struct Moment {
     memory: Vec<Phase>,
 }
 
+// Where there is no module, nothing is told.
 impl Moment {
     fn tell_state(&self, transcript: &mut Transcript) -> Result<(), AllocError> {
         match &self.now {

@@ -1,5 +1,5 @@
 -- The shelf as a list of the phases that are meant.
-use Rattle.std.specs.Prelude.{ℕ, Bool, false, not, cond, ◌&&◌, ◌||◌, List, [], ◌∷◌, ◌++◌, Some, None, Ok, Err, Option, Result, ◌==◌, nat_le, slice_set, filter, position}
+use Rattle.std.specs.Prelude.{ℕ, Bool, true, false, not, cond, ◌&&◌, List, [], ◌∷◌, ◌++◌, Some, None, Ok, Err, Option, Result, ◌==◌, nat_le, slice_set, filter, position}
 use Rattle.faults.specs.declared.Fault.{Fault}
 use Rattle.phases.specs.declared.phase.Position.{Position}
 use Rattle.sheet.specs.declared.shelf.Meant.{Meant}
@@ -29,9 +29,10 @@ position_of p = position_in p.sequence p.phase
 abbrev pub same_place : Meant → Meant → Bool
 same_place p q = same_number p.sequence q.sequence && same_number p.phase q.phase
 
--- erasing the sequence n takes the phase off; 0 erases all
-abbrev pub erases : ℕ → Meant → Bool
-erases n p = n == 0 || same_number p.sequence (Some n)
+-- erasing all takes the phase off, and so does erasing its sequence
+abbrev pub erases : Option ℕ → Meant → Bool
+erases None p = true
+erases (Some n) p = same_number p.sequence (Some n)
 
 -- where the first phase of the same sequence and number stands
 abbrev pub place_of : Meant → List Meant → Option ℕ
@@ -45,8 +46,8 @@ put_at (Some i) p qs = slice_set qs i p
 abbrev pub replaced : Meant → List Meant → List Meant
 replaced p qs = put_at (place_of p qs) p qs
 
--- what erasing a sequence leaves
-abbrev pub kept_of : ℕ → List Meant → List Meant
+-- what erasing a sequence, or all, leaves
+abbrev pub kept_of : Option ℕ → List Meant → List Meant
 kept_of n qs = filter (λ q. not (erases n q)) qs
 
 abbrev pub stepped : Option Step → List Meant → List Meant

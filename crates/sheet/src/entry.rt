@@ -9,7 +9,7 @@ use loader::{Done, Order, Outcome};
 use phases::{Phase, Position};
 use std::fmt;
 
-// What became of a line.
+// What became of a line, to be printed: each end has words of its own.
 #[derive(Clone, Copy)]
 pub enum Fate {
     Accepted,

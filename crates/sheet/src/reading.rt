@@ -12,7 +12,7 @@ use crate::shelf::{Meant, Step, take_step};
 use crate::text::stray_byte;
 use crate::unreadable::Unreadable;
 use crate::verdict::{ShelfPhase, Verdict};
-use lines::{Line, Receiver};
+use lines::{Character, Line, Receiver};
 use loader::{Loader, Outcome, read_order};
 use phases::Phase;
 use std::alloc::{AllocError, Global};
@@ -83,10 +83,12 @@ impl Desk {
     fn take(&mut self, byte: u8) -> Result<(), AllocError>
         ensures { OnOk result (progress self.new ≡ onward (progress self.old) byte) }
     {
-        let outcome = self
-            .loader
-            .character(self.memory.as_mut_slice(), byte, false);
-        match self.receiver.receive(byte, false) {
+        let character = Character {
+            byte,
+            damaged: false,
+        };
+        let outcome = self.loader.character(self.memory.as_mut_slice(), character);
+        match self.receiver.receive(character) {
             Some(line) => self.notes.add(line, outcome),
             None => Ok(()),
         }

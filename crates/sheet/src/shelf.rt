@@ -23,7 +23,7 @@ pub struct Meant {
 #[derive(Clone, Copy)]
 pub(crate) enum Step {
     Put(Meant),
-    TakeOff(u8),
+    TakeOff(Option<u8>),
 }
 
 // The number, if it is one from 1 to `high`.
@@ -70,7 +70,7 @@ impl Step {
                 phase: Some(at.phase),
                 record: Some(phase),
             })),
-            Ok(Order::Erase { number }) => Some(Step::TakeOff(number)),
+            Ok(Order::Erase(sequence)) => Some(Step::TakeOff(sequence)),
             Ok(_) => None,
             Err(_) => refused_phase(line, address).map(Step::Put),
         }
@@ -95,11 +95,11 @@ impl Meant {
         self.position().is_some() && self.position() == other.position()
     }
 
-    // Whether erasing the sequence takes the phase off the shelf; 0 erases all.
-    fn is_erased_by(&self, number: u8) -> bool
-        ensures { result ≡ erases number self.now }
+    // Whether erasing the sequence, or all of them for none, takes the phase off the shelf.
+    fn is_erased_by(&self, sequence: Option<u8>) -> bool
+        ensures { result ≡ erases sequence self.now }
     {
-        number == 0 || self.sequence == Some(number)
+        sequence.is_none() || self.sequence == sequence
     }
 }
 
@@ -122,11 +122,11 @@ fn put(shelf: &mut Vec<Meant>, phase: Meant) -> Result<(), AllocError>
     Ok(())
 }
 
-// Takes the phases of a sequence off the shelf; 0 takes all.
-fn take_off(shelf: &mut Vec<Meant>, number: u8)
-    ensures { shelf.new.items ≡ kept_of number shelf.old.items }
+// Takes the phases of a sequence off the shelf, or those of all.
+fn take_off(shelf: &mut Vec<Meant>, sequence: Option<u8>)
+    ensures { shelf.new.items ≡ kept_of sequence shelf.old.items }
 {
-    shelf.retain(|meant| !meant.is_erased_by(number));
+    shelf.retain(|meant| !meant.is_erased_by(sequence));
 }
 
 // Takes the step of a line with the shelf.
@@ -135,7 +135,7 @@ pub(crate) fn take_step(shelf: &mut Vec<Meant>, step: Option<Step>) -> Result<()
 {
     match step {
         Some(Step::Put(phase)) => put(shelf, phase)?,
-        Some(Step::TakeOff(number)) => take_off(shelf, number),
+        Some(Step::TakeOff(sequence)) => take_off(shelf, sequence),
         None => {}
     }
     Ok(())

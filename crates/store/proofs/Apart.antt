@@ -165,11 +165,11 @@ module _ (bs : List Block) (m : List Phase) (n other : ℕ) (ne : n ≡ other �
       (rw (i, o, h.size, removed_at h.before h.block h.behind)
       (block_goes h.before h.block h.behind m other (λ q. ne (sym h.named ∙ q)) r))
 
-  se_by : reserved bs ≤ length m → sound bs ≡ true → (n ≡ 0 → ⊥) → (r : Option Span) → r ≡ placed 0 0 bs n → CutBy 0 0 bs n r → phases (erased_blocks bs n) (erased_records bs n m) other ≡ phases bs m other
-  se_by l s z None e h = subst (λ x. phases x (erased_records bs n m) other ≡ phases bs m other) (keeps_blocks bs n z s e) (ap (λ x. phases bs x other) (sym (keeps_records bs n z s m e)))
-  se_by l s z (Some p) e h =
-      subst (λ x. phases x (erased_records bs n m) other ≡ phases bs m other) (erases_blocks bs n z s p e)
-      (ap (λ x. phases (remove bs p.index) x other) (sym (erases_records bs n z s p m e)) ∙ se_at l p h)
+  se_by : reserved bs ≤ length m → sound bs ≡ true → (r : Option Span) → r ≡ placed 0 0 bs n → CutBy 0 0 bs n r → phases (erased_blocks bs (Some n)) (erased_records bs (Some n) m) other ≡ phases bs m other
+  se_by l s None e h = subst (λ x. phases x (erased_records bs (Some n) m) other ≡ phases bs m other) (keeps_blocks bs n s e) (ap (λ x. phases bs x other) (sym (keeps_records bs n s m e)))
+  se_by l s (Some p) e h =
+      subst (λ x. phases x (erased_records bs (Some n) m) other ≡ phases bs m other) (erases_blocks bs n s p e)
+      (ap (λ x. phases (remove bs p.index) x other) (sym (erases_records bs n s p m e)) ∙ se_at l p h)
 
-  pub se_keeps : reserved bs ≤ length m → sound bs ≡ true → (n ≡ 0 → ⊥) → phases (erased_blocks bs n) (erased_records bs n m) other ≡ phases bs m other
-  se_keeps l s z = se_by l s z (placed 0 0 bs n) refl (cut 0 0 bs n)
+  pub se_keeps : reserved bs ≤ length m → sound bs ≡ true → phases (erased_blocks bs (Some n)) (erased_records bs (Some n) m) other ≡ phases bs m other
+  se_keeps l s = se_by l s (placed 0 0 bs n) refl (cut 0 0 bs n)

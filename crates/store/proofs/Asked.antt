@@ -1,7 +1,7 @@
 -- What SN and SE answer and leave, case by case.
 use Rattle.std.proofs.Common.{◌≡◌, ℕ, ◌+◌, ◌-◌, ◌<◌, ◌≤◌, Bool, true, false, cond, not, leb, List, is_some, is_ok, Some, None, Ok, Err, Option, Result, sym, refl, ap, ◌∙◌, subst, arith}
 use Rattle.std.specs.List.{remove}
-use Rattle.std.proofs.lemmas.Bool.{and_from, le-leb, leb-true, lt-leb, ne_eqb, not-true, not-false, false≢true}
+use Rattle.std.proofs.lemmas.Bool.{and_from, le-leb, leb-true, lt-leb, not-true, not-false, false≢true}
 use Rattle.store.specs.declared.directory.Block.{Block}
 use Rattle.store.specs.declared.directory.Span.{Span}
 use Rattle.phases.specs.declared.phase.Phase.{Phase}
@@ -50,22 +50,22 @@ pub admitted : (bs : List Block) (n k : ℕ) (r : Option Span) (there : Bool) �
     → (n ≡ 0 → ⊥) → n ≤ 99 → (k ≡ 0 → ⊥) → k ≤ 50 → reserved bs + k ≤ 414 → ◌≡◌ {A = Result (Unit {0}) Fault} (Ok tt) (create_answer bs n k)
 admitted bs n k r there e s absence z l y j h = answers_ok bs n r e k z l y j (sym s ∙ absence) h
 
-module _ (bs : List Block) (n : ℕ) (z : n ≡ 0 → ⊥) (s : sound bs ≡ true) where
-  pub erases_blocks : (p : Span) → Some p ≡ placed 0 0 bs n → remove bs p.index ≡ erased_blocks bs n
+module _ (bs : List Block) (n : ℕ) (s : sound bs ≡ true) where
+  pub erases_blocks : (p : Span) → Some p ≡ placed 0 0 bs n → remove bs p.index ≡ erased_blocks bs (Some n)
   erases_blocks p e =
       let g : Gone 0 bs n (Some p) = subst (Gone 0 bs n) (sym e) (gone 0 0 bs n s) in
       let k : p.index - 0 ≡ p.index = omega arith in
-      rw (ne_eqb n 0 z) (sym (g ∙ ap (remove bs) k))
+      sym (g ∙ ap (remove bs) k)
 
-  pub keeps_blocks : None ≡ placed 0 0 bs n → bs ≡ erased_blocks bs n
+  pub keeps_blocks : None ≡ placed 0 0 bs n → bs ≡ erased_blocks bs (Some n)
   keeps_blocks e =
-      let g : Gone 0 bs n None = subst (Gone 0 bs n) (sym e) (gone 0 0 bs n s) in rw (ne_eqb n 0 z) (sym g)
+      let g : Gone 0 bs n None = subst (Gone 0 bs n) (sym e) (gone 0 0 bs n s) in sym g
 
-  pub erases_records : (p : Span) (m : List Phase) → Some p ≡ placed 0 0 bs n → closed p.offset p.reserve (reserved bs) m ≡ erased_records bs n m
-  erases_records p m e = rw (ne_eqb n 0 z, ← e)
+  pub erases_records : (p : Span) (m : List Phase) → Some p ≡ placed 0 0 bs n → closed p.offset p.reserve (reserved bs) m ≡ erased_records bs (Some n) m
+  erases_records p m e = rw (← e)
 
-  pub keeps_records : (m : List Phase) → None ≡ placed 0 0 bs n → m ≡ erased_records bs n m
-  keeps_records m e = rw (ne_eqb n 0 z, ← e)
+  pub keeps_records : (m : List Phase) → None ≡ placed 0 0 bs n → m ≡ erased_records bs (Some n) m
+  keeps_records m e = rw (← e)
 
 four : {A E : Type 0} (f d g h : E) (x : A) (a w b c : Bool) → is_ok (cond (not a) (Err f) (cond (not w) (Err d) (cond (not b) (Err g) (cond c (Ok x) (Err h))))) ≡ true → (a ≡ true) × (b ≡ true) × (c ≡ true)
 four f d g h x true true true true e = (refl, refl, refl)

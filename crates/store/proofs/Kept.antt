@@ -8,7 +8,7 @@ use Rattle.faults.specs.declared.Fault.{Fault}
 use Rattle.phases.specs.declared.phase.Phase.{Phase}
 use Rattle.phases.specs.Phases.{Written, blank}
 use Rattle.store.specs.Blocks.{reserved, placed, absent, sound, Within}
-use Rattle.store.specs.Records.{blanked, closed, create_answer, in_span, located, write_answer, rewritten, read_answer, without, erased_blocks, erased_records}
+use Rattle.store.specs.Records.{blanked, closed, create_answer, in_span, located, write_answer, rewritten, read_answer, without, erased_records}
 use Rattle.store.specs.Keeps.{phases, Store, Fit, Command, SN, SE, SP, step, Spares, Keeps, Tells, told, Changes, with_phase, ReadsWhatWasWritten, Examples}
 use Rattle.store.proofs.Sound.{reserved_append, reserved_removed, sound_push, sound_removed, within_placed}
 use Rattle.store.proofs.Asked.{created, erases_blocks, keeps_blocks, erases_records, keeps_records}
@@ -38,14 +38,14 @@ fit_sn n many s f =
     ))
     (λ e. f)
 
-se_fits : (n : ℕ) (s : Store) (z : n ≡ 0 → ⊥) → Fit s → (r : Option Span) → r ≡ placed 0 0 s.blocks n → Within s.blocks r → Fit (step (SE n) s)
-se_fits n s z f None e w =
-    let b = keeps_blocks s.blocks n z f.0 e in
-    let m = keeps_records s.blocks n z f.0 s.records e in
+se_fits : (n : ℕ) (s : Store) → Fit s → (r : Option Span) → r ≡ placed 0 0 s.blocks n → Within s.blocks r → Fit (step (SE (Some n)) s)
+se_fits n s f None e w =
+    let b = keeps_blocks s.blocks n f.0 e in
+    let m = keeps_records s.blocks n f.0 s.records e in
     (subst (λ x. sound x ≡ true) b f.0, subst (λ x. reserved x ≤ 414) b f.1, subst (λ x. length x ≡ 414) m f.2)
-se_fits n s z f (Some p) e w =
-    let b = erases_blocks s.blocks n z f.0 p e in
-    let m = erases_records s.blocks n z f.0 p s.records e in (
+se_fits n s f (Some p) e w =
+    let b = erases_blocks s.blocks n f.0 p e in
+    let m = erases_records s.blocks n f.0 p s.records e in (
       subst (λ x. sound x ≡ true) b (sound_removed s.blocks p.index f.0),
       subst (λ x. reserved x ≤ 414) b (omega (arith, reserved_removed s.blocks p.index, f.1)),
       subst (λ x. length x ≡ 414) m (length_closed p.offset p.reserve (reserved s.blocks) s.records w.1 (omega (arith, f.1, f.2)) ∙ f.2),
@@ -53,7 +53,8 @@ se_fits n s z f (Some p) e w =
 
 fit_step : (c : Command) (s : Store) (n : ℕ) → Fit s → Spares n c → Fit (step c s)
 fit_step (SN o many) s n f a = fit_sn o many s f
-fit_step (SE o) s n f a = se_fits o s a.0 f (placed 0 0 s.blocks o) refl (within_placed s.blocks o)
+fit_step (SE None) s n f a = absurd a
+fit_step (SE (Some o)) s n f a = se_fits o s f (placed 0 0 s.blocks o) refl (within_placed s.blocks o)
 fit_step (SP o np p) s n f a = (f.0, f.1, length_rewritten (located s.blocks o np) p s.records ∙ f.2)
 
 -- ---- a sequence keeps every phase
@@ -63,7 +64,8 @@ step_keeps (SN o many) s n f a =
     cond_both (is_ok (create_answer s.blocks o many)) _ _ (λ (t : Store). phases t.blocks t.records n ≡ phases s.blocks s.records n)
     (λ e. sn_keeps s.blocks s.records o n a many (omega (arith, f.1, f.2)))
     (λ e. refl)
-step_keeps (SE o) s n f a = se_keeps s.blocks s.records o n a.1 (omega (arith, f.1, f.2)) f.0 a.0
+step_keeps (SE None) s n f a = absurd a
+step_keeps (SE (Some o)) s n f a = se_keeps s.blocks s.records o n a (omega (arith, f.1, f.2)) f.0
 step_keeps (SP o np p) s n f a = sp_keeps s.blocks s.records o n a np p (omega (arith, f.1, f.2))
 
 pub keeps : Keeps
@@ -133,8 +135,8 @@ sn_changes n many s f e =
     (phases_append n s.blocks (record { number = n; reserve = many } ∷ []) (take u s.records) (replicate many blank ++ drop (u + many) s.records) r
     ∙ rw (phases_absent s.blocks (take u s.records) n c.1, same, take_at (replicate many blank) (drop (u + many) s.records) many (length-replicate many blank)))
 
-se_changes : (n : ℕ) (s : Store) → phases (step (SE n) s).blocks (step (SE n) s).records n ≡ None
-se_changes n s = phases_absent (erased_blocks s.blocks n) (erased_records s.blocks n s.records) n (cond_both (eqb n 0) _ _ (λ bs. absent n bs ≡ true) (λ e. refl) (λ e. absent_without n s.blocks))
+se_changes : (n : ℕ) (s : Store) → phases (step (SE (Some n)) s).blocks (step (SE (Some n)) s).records n ≡ None
+se_changes n s = phases_absent (without n s.blocks) (erased_records s.blocks (Some n) s.records) n (absent_without n s.blocks)
 
 sp_part : (bs : List Block) (m : List Phase) (np : ℕ) (p : Phase) → reserved bs ≤ length m → (r : Option Span) → Within bs r → part r (rewritten (in_span r np) p m) ≡ with_phase (part r m) np p
 sp_part bs m np p l None w = refl
@@ -149,6 +151,7 @@ pub changes : Changes
 changes s n f = (
   λ many e. sn_changes n many s f e,
   se_changes n s,
+  refl,
   λ np p.
       phases_placed 0 0 s.blocks n (rewritten (located s.blocks n np) p s.records)
       ∙ sp_part s.blocks s.records np p (omega (arith, f.1, f.2)) (placed 0 0 s.blocks n) (within_placed s.blocks n)

@@ -24,7 +24,7 @@ Fit s = (sound s.blocks ≡ true) × (reserved s.blocks ≤ 414) × (length s.re
 
 pub data Command : Type 0 where
   SN : ℕ → ℕ → Command
-  SE : ℕ → Command
+  SE : Option ℕ → Command
   SP : ℕ → ℕ → Phase → Command
 
 abbrev pub step : Command → Store → Store
@@ -42,7 +42,8 @@ run (c ∷ cs) s = run cs (step c s)
 -- the command names another sequence, and not all of them
 abbrev pub Spares : ℕ → Command → Type 0
 Spares n (SN other many) = other ≡ n → ⊥
-Spares n (SE other) = (other ≢ 0) × (other ≢ n)
+Spares n (SE None) = ⊥
+Spares n (SE (Some other)) = other ≢ n
 Spares n (SP other np p) = other ≡ n → ⊥
 
 -- whatever is done to the others, a sequence keeps every phase
@@ -62,12 +63,13 @@ abbrev pub with_phase : Option (List Phase) → ℕ → Phase → Option (List P
 with_phase None np p = None
 with_phase (Some ps) np p = Some (cond (nat_le 1 np && nat_le np (length ps)) (slice_set ps (np - 1) p) ps)
 
--- SN makes the sequence that it names blank, SE takes it away, SP changes one phase of it
+-- SN makes the sequence that it names blank, SE takes it away, or every one, SP changes one phase of it
 abbrev pub Changes : Type 0
 Changes =
     (s : Store) (n : ℕ) → Fit s →
     ((many : ℕ) → is_ok (create_answer s.blocks n many) ≡ true → phases (step (SN n many) s).blocks (step (SN n many) s).records n ≡ Some (replicate many blank))
-    × (phases (step (SE n) s).blocks (step (SE n) s).records n ≡ None)
+    × (phases (step (SE (Some n)) s).blocks (step (SE (Some n)) s).records n ≡ None)
+    × (phases (step (SE None) s).blocks (step (SE None) s).records n ≡ None)
     × ((np : ℕ) (p : Phase) → phases (step (SP n np p) s).blocks (step (SP n np p) s).records n ≡ with_phase (phases s.blocks s.records n) np p)
 
 -- a phase that was written is what is read of its place afterwards

@@ -36,22 +36,26 @@ create_answer bs n many =
     (cond (not (absent n bs)) (Err sequence_exists)
     (cond (nat_le (reserved bs + many) 414) (Ok tt) (Err memory_full))))
 
--- SE: 0 erases all; a number above 99 is past its limit
-abbrev pub erase_answer : ℕ → Result (Unit {0}) Fault
-erase_answer n = cond (nat_le n 99) (Ok tt) (Err (past_limit 2))
+-- SE: all sequences, or one; a number above 99 is past its limit. No sequence has the number 0, so that erasing it, like any absent one, is accepted and changes nothing
+abbrev pub erase_answer : Option ℕ → Result (Unit {0}) Fault
+erase_answer None = Ok tt
+erase_answer (Some n) = cond (nat_le n 99) (Ok tt) (Err (past_limit 2))
 
 abbrev pub without : ℕ → List Block → List Block
 without n bs = filter (λ b. not (b.number == n)) bs
 
-abbrev pub erased_blocks : List Block → ℕ → List Block
-erased_blocks bs n = cond (n == 0) [] (without n bs)
+-- what is left where all sequences are erased, or one
+abbrev pub erased_blocks : List Block → Option ℕ → List Block
+erased_blocks bs None = []
+erased_blocks bs (Some n) = without n bs
 
 abbrev pub gap_closed : Option Span → ℕ → List Phase → List Phase
 gap_closed None used m = m
 gap_closed (Some s) used m = closed s.offset s.reserve used m
 
-abbrev pub erased_records : List Block → ℕ → List Phase → List Phase
-erased_records bs n m = cond (n == 0) (blanked 0 (reserved bs) m) (gap_closed (placed 0 0 bs n) (reserved bs) m)
+abbrev pub erased_records : List Block → Option ℕ → List Phase → List Phase
+erased_records bs None m = blanked 0 (reserved bs) m
+erased_records bs (Some n) m = gap_closed (placed 0 0 bs n) (reserved bs) m
 
 -- SP and RS: the record of phase np of the sequence n
 abbrev pub in_span : Option Span → ℕ → Result ℕ Fault

@@ -35,7 +35,7 @@ fn nature_letters(nature: Nature) -> [u8; 2]
     }
 }
 
-// X where the input is not named, else the wanted level.
+// X where the input is not named, else the wanted level; both are bits of the inputs.
 fn mark(named: u8, level: u8) -> u8
     ensures { result ≡ mark_of named level }
 {
@@ -48,7 +48,7 @@ fn mark(named: u8, level: u8) -> u8
     }
 }
 
-// Writes a mark for each of the first `width` inputs.
+// Writes a mark for each of the first `width` inputs, as figures are written, by calling itself for the others.
 fn write_marks(reply: &mut Reply, inputs: Inputs, width: usize)
     requires { Room reply.old width }
     ensures byte { inputs.named ≤ 255 }
@@ -66,7 +66,7 @@ fn write_marks(reply: &mut Reply, inputs: Inputs, width: usize)
     }
 }
 
-// Writes a phase to go on with, or XX for none.
+// Writes a phase to go on with, or XX for none. Outputs are written in another base, so that one function for both would take more words.
 fn write_next(reply: &mut Reply, next: Option<u8>)
     requires { Room reply.old 2 }
     ensures wrote { Wrote reply.old reply.new (next_word next) }
@@ -170,7 +170,7 @@ fn write_found(p: &Phase, reply: &mut Reply, at: Position)
     }
 }
 
-// Answers RS at the module's address with this record, the phase at that position.
+// Answers RS at the module's address with this record, the phase at that position, in the frame of every answer.
 pub fn answer_rs(p: &Phase, out: &mut [u8], address: u8, at: Position) -> Result<usize, Fault>
     ensures back { OnOk result (TakenBack at p.now) }
     ensures length { IfOk result (λ n. n ≤ 58) }

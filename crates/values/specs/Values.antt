@@ -1,5 +1,5 @@
 -- The limits of the values that the words of the store's commands give. The leftmost word past its limit is at fault.
-use Rattle.std.specs.Prelude.{◌≡◌, ℕ, true, cond, ◌&&◌, ℤ, Some, None, Ok, Err, Option, Result, nat_le}
+use Rattle.std.specs.Prelude.{◌≡◌, ℕ, true, cond, ◌&&◌, ℤ, Some, None, Ok, Err, Option, Result, ◌==◌, nat_le}
 use Rattle.faults.specs.declared.Fault.{Fault}
 use Rattle.faults.specs.Faults.{and_then, past_limit, no_such_phase}
 use Rattle.phases.specs.declared.phase.Link.{Link}
@@ -29,9 +29,9 @@ within low high f n = limited (λ m. m) low high f n
 unfoldable pub address_values : Address → Result Position Fault
 address_values a = and_then (within 1 99 (past_limit 2) a.sequence) (λ s. and_then (within 1 50 (no_such_phase 3) a.phase) (λ p. Ok (record { sequence = s; phase = p })))
 
--- word 2: a sequence to erase, 0 for all of them
-abbrev pub erase_value : ℕ → Result ℕ Fault
-erase_value n = within 0 99 (past_limit 2) n
+-- word 2: a sequence to erase; 0 stands for all of them, and is none
+abbrev pub erase_value : ℕ → Result (Option ℕ) Fault
+erase_value n = cond (n == 0) (Ok None) (and_then (within 1 99 (past_limit 2) n) (λ s. Ok (Some s)))
 
 -- word 6: the set point, by nature
 unfoldable pub set_point_value : Motion → Result ℤ Fault

@@ -1,7 +1,7 @@
 // The limits of the values that the words of the store's commands give.
 #![tactic(auto)]
 
-ghost use Rattle.std.specs.Prelude.{◌≡◌, ◌≤◌, ℕ};
+ghost use Rattle.std.specs.Prelude.{◌≡◌, ◌≤◌, ◌&&◌, ℕ, false, Err, nat_le};
 ghost use Rattle.values.specs.Values.{Becomes, limited, within as within_of, address_values, erase_value, set_point_value, link_value, next_value, outputs_value, record_values, sp_values};
 ghost use Rattle.faults.specs.Faults.{past_limit};
 
@@ -14,7 +14,8 @@ use phases::{Link, Phase, Position, next_fits};
 pub fn within<T: TryFrom<u64>>(low: u64, high: u64, fault: Fault, n: u64) -> Result<T, Fault>
 where
     T::Error: Drop,
-    ensures { (value : ℕ → T) → ((m : ℕ) → m ≤ high → Becomes T.try_from_gives m (value m)) → result ≡ limited value low high fault n }
+    ensures refused { (nat_le low n && nat_le n high) ≡ false → result ≡ Err fault }
+    ensures value { (value : ℕ → T) → ((m : ℕ) → m ≤ high → Becomes T.try_from_gives m (value m)) → result ≡ limited value low high fault n }
 {
     if low <= n && n <= high {
         T::try_from(n).map_err(|_| fault)
@@ -33,11 +34,14 @@ pub fn address_values(address: Address) -> Result<Position, Fault>
     Ok(Position { sequence, phase })
 }
 
-// The number of a sequence to erase, 0 for all of them.
-pub fn erase_value(n: u64) -> Result<u8, Fault>
+// The sequence to erase; 0 stands for all of them, and is none.
+pub fn erase_value(n: u64) -> Result<Option<u8>, Fault>
     ensures { result ≡ erase_value n }
 {
-    within(0, 99, Fault::past_limit(2), n)
+    if n == 0 {
+        return Ok(None);
+    }
+    Ok(Some(within(1, 99, Fault::past_limit(2), n)?))
 }
 
 // The set point within the limits of the nature.
@@ -76,7 +80,7 @@ fn link_value(link: Option<Link<Amount>>) -> Result<Option<Link<u8>>, Fault>
     }
 }
 
-// The phase to go on with, 54 being the stop.
+// The phase to go on with, 54 being the stop: a number as in the record, which a caller may lend with any.
 #[tactic(auto, unfolding(crate::specs::Values::next_value, crate::specs::Values::limited))]
 fn next_value(next: Option<Amount>) -> Result<Option<u8>, Fault>
     ensures { result ≡ next_value next }

@@ -1,10 +1,11 @@
 // What a line keeps of its characters, and what it says.
 ghost use Rattle.std.specs.Prelude.{◌≡◌, List, [], ◌∷◌, ◌++◌};
 ghost use Rattle.std.specs.Result.{result_map_both};
-ghost use Rattle.lines.specs.Characters.{Character, addressee_of, received};
+ghost use Rattle.lines.specs.Characters.{Character as Arrival, addressee_of, received};
 ghost use Rattle.lines.specs.Lines.{kept, kept_of, taken, is_own_in, is_broadcast_in, addressee_in, text_in};
 
 use super::{Addressee, Line};
+use crate::character::Character;
 use faults::Fault;
 
 const CAPACITY: usize = 64;
@@ -24,9 +25,10 @@ impl Line {
     }
 
     // Takes one character more.
-    pub(crate) fn take(&mut self, byte: u8, damaged: bool)
-        ensures { kept self.new ≡ taken (kept self.old) (byte, damaged) }
+    pub(crate) fn take(&mut self, character: Character)
+        ensures { kept self.new ≡ taken (kept self.old) (character.byte, character.damaged) }
     {
+        let Character { byte, damaged } = character;
         let at = self.len;
         self.first_damaged = self.first_damaged || damaged && at == 0;
         self.second_damaged = self.second_damaged || damaged && at == 1;
@@ -66,7 +68,7 @@ impl Line {
     // Whom the line is for, at a module of the address.
     pub fn addressee(&self, address: u8) -> Addressee
         ensures value { result ≡ addressee_in address (kept self.now) }
-        ensures list { (cs : List Character) → kept self.now ≡ kept_of cs → result ≡ addressee_of address cs }
+        ensures list { (cs : List Arrival) → kept self.now ≡ kept_of cs → result ≡ addressee_of address cs }
     {
         if self.is_own(address) {
             Addressee::Own
@@ -80,7 +82,7 @@ impl Line {
     // The line behind its first `from` characters, or why the line is refused.
     pub fn text(&self, from: usize) -> Result<&[u8], Fault>
         ensures value { result_map_both (λ x. x.now) (λ f. f) result ≡ text_in from (kept self.now) }
-        ensures list { (cs : List Character) → kept self.now ≡ kept_of cs → result_map_both (λ x. x.now) (λ f. f) result ≡ received from cs }
+        ensures list { (cs : List Arrival) → kept self.now ≡ kept_of cs → result_map_both (λ x. x.now) (λ f. f) result ≡ received from cs }
     {
         if self.refused {
             return Err(Fault::bad_line());

@@ -1,4 +1,5 @@
-// The replies to accepted orders.
+// The replies to accepted orders. The parameters of `control` and what `questions` tells of them lie in crates that do not know one
+// another, so that no `From` can stand between them.
 ghost use Rattle.std.specs.Prelude.{◌≡◌, ◌≤◌, length};
 ghost use Rattle.replies.specs.Replies.{answered};
 ghost use Rattle.control.specs.States.{state};

@@ -11,7 +11,7 @@ use crate::effects::{affect, change};
 use axis::Axis;
 use control::Control;
 use faults::Fault;
-use lines::Receiver;
+use lines::{Character, Receiver};
 use outputs::StepOutput;
 use phases::Phase;
 use store::whole;
@@ -51,16 +51,15 @@ impl<O: StepOutput> Module<O> {
     // A character that is received.
     fn receive(
         &mut self,
-        byte: u8,
-        damaged: bool,
+        character: Character,
         memory: &mut [Phase],
         out: &mut [u8],
     ) -> Result<usize, Fault>
         requires { 80 ≤ length out.old }
-        ensures state { state_in O.CYCLE self.new memory.new ≡ state_after O.CYCLE self.old memory.old (arrived byte damaged) }
-        ensures answer { (result, out.new) ≡ character_answer (answer_to O.CYCLE self.old memory.old (arrived byte damaged)) out.old }
+        ensures state { state_in O.CYCLE self.new memory.new ≡ state_after O.CYCLE self.old memory.old (arrived character.byte character.damaged) }
+        ensures answer { (result, out.new) ≡ character_answer (answer_to O.CYCLE self.old memory.old (arrived character.byte character.damaged)) out.old }
     {
-        match self.receiver.receive(byte, damaged) {
+        match self.receiver.receive(character) {
             Some(line) => self.finish(&line, memory, out),
             None => Ok(0),
         }
@@ -69,19 +68,18 @@ impl<O: StepOutput> Module<O> {
     // Takes a character, and answers the length of the reply in `out`, which stays beyond it.
     pub fn character(
         &mut self,
-        byte: u8,
-        damaged: bool,
+        character: Character,
         memory: &mut [Phase],
         out: &mut [u8],
     ) -> Result<usize, Fault>
-        ensures state { state_in O.CYCLE self.new memory.new ≡ state_after O.CYCLE self.old memory.old (handed (length memory.old) (with_room (length out.old) (arrived byte damaged))) }
-        ensures answer { (result, out.new) ≡ character_answer (answer_to O.CYCLE self.old memory.old (handed (length memory.old) (with_room (length out.old) (arrived byte damaged)))) out.old }
+        ensures state { state_in O.CYCLE self.new memory.new ≡ state_after O.CYCLE self.old memory.old (handed (length memory.old) (with_room (length out.old) (arrived character.byte character.damaged))) }
+        ensures answer { (result, out.new) ≡ character_answer (answer_to O.CYCLE self.old memory.old (handed (length memory.old) (with_room (length out.old) (arrived character.byte character.damaged)))) out.old }
     {
         whole(memory)?;
         if out.len() < REPLY_ROOM {
             return Err(Fault::short_reply());
         }
-        self.receive(byte, damaged, memory, out)
+        self.receive(character, memory, out)
     }
 
     // What a tick does: the step made, as a number that can be added to a place, and whether the module is still busy.
@@ -96,7 +94,7 @@ impl<O: StepOutput> Module<O> {
         (made, self.control.busy())
     }
 
-    // One tick of 1/40,000 s.
+    // One tick of 1/40,000 s: the step made, as a number, and whether the module is still busy.
     pub fn tick(&mut self, memory: &[Phase]) -> Result<(i8, bool), Fault>
         ensures state { state_in O.CYCLE self.new memory.now ≡ state_after O.CYCLE self.old memory.now (handed (length memory.now) ticking) }
         ensures answer { result ≡ tick_answer (answer_to O.CYCLE self.old memory.now (handed (length memory.now) ticking)) }

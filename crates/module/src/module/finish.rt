@@ -1,5 +1,5 @@
-// A finished line: judged, carried out and answered. The room of the buffer is tested in the public call alone, and asked for here;
-// what stays is a fact of each call.
+// A finished line: judged, carried out and answered. The room of the buffer is tested in the public call alone, and asked for
+// behind it: a type for a tested buffer would be taken apart again at each answer. What stays is a fact of each call.
 ghost use Rattle.std.specs.Prelude.{◌≡◌, ◌≤◌, true, length, None};
 ghost use Rattle.lines.specs.Lines.{kept};
 ghost use Rattle.questions.specs.Questions.{fault_text, refused as refused_text};

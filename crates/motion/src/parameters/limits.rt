@@ -19,7 +19,7 @@ impl Speed {
         }
     }
 
-    // This speed, or that one if it is higher.
+    // This speed, or that one if it is higher: two speeds compared, for which an order of all speeds would be longer.
     pub(crate) fn at_least(self, least: Speed) -> Speed
         ensures { result.value ≡ max self.value least.value }
     {

@@ -92,34 +92,36 @@ impl Directory {
         Ok(())
     }
 
-    // Closes the gap of the sequence, or blanks all records for 0.
-    fn cut(&mut self, memory: &mut [Phase], number: u8)
+    // Closes the gap of the sequence, or blanks the records of all.
+    fn cut(&mut self, memory: &mut [Phase], sequence: Option<u8>)
         requires { length memory.old ≡ 414 }
-        ensures directory { sequences self.new ≡ erased_blocks (sequences self.old) number }
-        ensures records { memory.new ≡ erased_records (sequences self.old) number memory.old }
+        ensures directory { sequences self.new ≡ erased_blocks (sequences self.old) sequence }
+        ensures records { memory.new ≡ erased_records (sequences self.old) sequence memory.old }
     {
         let used = self.reserved();
-        if number == 0 {
+        let Some(number) = sequence else {
             blank_out(memory, 0, used);
             self.count = 0;
-        } else if let Some(span) = self.find(number) {
+            return;
+        };
+        if let Some(span) = self.find(number) {
             close_gap(memory, span.offset, span.reserve, used);
             self.remove(span.index);
         }
     }
 
-    // SE: closes the gap, keeps the order and blanks the records set free; 0 erases all. Erasing an
-    // absent sequence is accepted.
-    pub fn erase(&mut self, memory: &mut [Phase], number: u8) -> Result<(), Fault>
-        ensures answer { result ≡ and_then (lent memory.old) (λ _. erase_answer number) }
-        ensures directory { sequences self.new ≡ (if is_ok result then erased_blocks (sequences self.old) number else sequences self.old) }
-        ensures records { memory.new ≡ (if is_ok result then erased_records (sequences self.old) number memory.old else memory.old) }
+    // SE: closes the gap of the sequence, keeps the order and blanks the records set free; with none, it
+    // erases all. Erasing an absent sequence is accepted.
+    pub fn erase(&mut self, memory: &mut [Phase], sequence: Option<u8>) -> Result<(), Fault>
+        ensures answer { result ≡ and_then (lent memory.old) (λ _. erase_answer sequence) }
+        ensures directory { sequences self.new ≡ (if is_ok result then erased_blocks (sequences self.old) sequence else sequences self.old) }
+        ensures records { memory.new ≡ (if is_ok result then erased_records (sequences self.old) sequence memory.old else memory.old) }
     {
         whole(memory)?;
-        if number > 99 {
+        if sequence.is_some_and(|number| number > 99) {
             return Err(Fault::past_limit(2));
         }
-        self.cut(memory, number);
+        self.cut(memory, sequence);
         Ok(())
     }
 

@@ -19,7 +19,7 @@ loop-i-preserved g c =
     let y = g.O.StepOutput.CYCLE in
     let calls = c.args.calls.now in
     let i = c.loop-i.i in
-    let d : Call = Character 0 false 0 0 in
+    let d : Call = Character (record { byte = 0; damaged = false }) 0 0 in
     let start : State (module_device y) = state_in y c.begin-device.result c.args.memory.now in
     let more : i < length calls = c.loop-i-test.true in
     let room : i < length c.loop-i.answers = omega arith in (
