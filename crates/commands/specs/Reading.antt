@@ -7,10 +7,10 @@ use Rattle.lines.specs.declared.line.Addressee.{Addressee}
 use Rattle.lines.specs.declared.line.Addressee.TheVariants as to
 use Rattle.lines.specs.Lines.{Kept, addressee_in, text_in}
 use Rattle.words.specs.Words.{Ahead, words, upcoming, past}
-use Rattle.words.specs.Readings.{end, only_unsigned, only_signed, only_hexadecimal, two_unsigned}
+use Rattle.words.specs.Readings.{end, only_unsigned, only_signed, only_hexadecimal}
 use Rattle.fields.specs.declared.fields.Address.{Address}
 use Rattle.fields.specs.declared.fields.RawPhase.{RawPhase}
-use Rattle.fields.specs.Fields.{sp_form}
+use Rattle.fields.specs.Fields.{address_in, sp_form}
 use Rattle.commands.specs.declared.command.Command.{Command}
 use Rattle.commands.specs.declared.command.Command.TheVariants as c
 use Rattle.commands.specs.declared.names.Name.{Name}
@@ -71,7 +71,7 @@ abbrev pub pattern : (ℕ → Command) → Ahead → Result Command Fault
 pattern make s = and_then (only_hexadecimal s) (λ n. Ok (make n))
 
 abbrev pub address : Ahead → Result Address Fault
-address s = and_then (two_unsigned s) (λ p. Ok (record { sequence = p.0; phase = p.1 }))
+address s = and_then (address_in s) (λ a. and_then (end (past (past s))) (λ _. Ok a))
 
 abbrev pub numbers : (Address → Command) → Ahead → Result Command Fault
 numbers make s = and_then (address s) (λ a. Ok (make a))

@@ -3,12 +3,12 @@ ghost use Rattle.std.specs.Prelude.{◌≡◌};
 ghost use Rattle.words.specs.Left.{ahead};
 ghost use Rattle.words.specs.Words.{words, past};
 ghost use Rattle.lines.specs.Lines.{kept};
-ghost use Rattle.commands.specs.Reading.{is_question, known, asked, alone as alone_in, address as address_in, arguments as arguments_in, read_from, command_behind, command_in};
+ghost use Rattle.commands.specs.Reading.{is_question, known, asked, alone as alone_in, address as address_in, arguments as arguments_in, read_from, command_in};
 
 use crate::command::Command;
 use crate::names::{Name, name_of};
 use faults::Fault;
-use fields::{Address, read_sp};
+use fields::{Address, read_address, read_sp};
 use lines::{Addressee, Line};
 use words::Reader;
 
@@ -60,8 +60,9 @@ fn alone(reader: &Reader, command: Command) -> Result<Command, Fault>
 fn address(reader: &mut Reader) -> Result<Address, Fault>
     ensures { result ≡ address_in (ahead reader.old) }
 {
-    let (sequence, phase) = reader.two_unsigned()?;
-    Ok(Address { sequence, phase })
+    let address = read_address(reader)?;
+    reader.end()?;
+    Ok(address)
 }
 
 // The words behind the command.
@@ -109,22 +110,19 @@ pub fn read_command(text: &[u8], broadcast: bool) -> Result<Command, Fault>
     arguments(&mut reader, name)
 }
 
-// The command behind the first `from` characters of a line: behind the address, or a broadcast from its first letter.
+// The command of a line at a module of the address, or why the line is refused; none for a stranger's line. An own line is read
+// behind its address, a broadcast from its first letter.
 #[tactic(auto, unfolding(crate::specs::Reading::command_behind))]
-fn command_behind(line: &Line, from: usize, broadcast: bool) -> Result<Command, Fault>
-    ensures { result ≡ command_behind from broadcast (kept line.now) }
-{
-    let text = line.text(from)?;
-    read_command(text, broadcast)
-}
-
-// The command of a line at a module of the address, or why the line is refused; none for a stranger's line.
 pub fn read_line(line: &Line, address: u8) -> Option<Result<Command, Fault>>
     ensures { result ≡ command_in address (kept line.now) }
 {
-    match line.addressee(address) {
-        Addressee::Own => Some(command_behind(line, 2, false)),
-        Addressee::Broadcast => Some(command_behind(line, 0, true)),
-        Addressee::Stranger => None,
-    }
+    let (from, broadcast) = match line.addressee(address) {
+        Addressee::Own => (2, false),
+        Addressee::Broadcast => (0, true),
+        Addressee::Stranger => return None,
+    };
+    Some(
+        line.text(from)
+            .and_then(|text| read_command(text, broadcast)),
+    )
 }

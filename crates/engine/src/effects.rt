@@ -11,7 +11,8 @@ pub enum Power {
     Off,
 }
 
-// The step made, power switched, the counter set to zero, the outputs set, whether the run has ended, and its fault.
+// The step made, power switched, the counter set to zero, the outputs set, whether the run has ended, and its fault. The end is told
+// here too, since `Control::tick` answers the effects without the run.
 #[derive(Clone, Copy, Default)]
 pub struct Effects {
     pub step: Option<Sense>,

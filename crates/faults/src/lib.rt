@@ -46,7 +46,8 @@ pub struct Fault {
 }
 
 impl Cause {
-    // The number that the module tells for this cause: the one that its case carries.
+    // The number that the module tells for this cause: the one that its case carries, which the cast reads. A `From`
+    // would hold the same cast, under a name that says less.
     pub fn number(self) -> u8
         ensures { result ≡ number_of self }
     {

@@ -173,7 +173,7 @@ fn read_link(reader: &mut Reader) -> Result<Option<Link<Amount>>, Fault>
 
 // The sequence and the phase.
 #[tactic(auto, unfolding(crate::specs::Fields::address_in))]
-fn read_address(reader: &mut Reader) -> Result<Address, Fault>
+pub fn read_address(reader: &mut Reader) -> Result<Address, Fault>
     ensures value { result ≡ address_in (ahead reader.old) }
     ensures ahead { OnOk result (ahead reader.new ≡ past (past (ahead reader.old))) }
 {

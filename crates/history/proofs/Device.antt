@@ -3,6 +3,7 @@ use Rattle.std.proofs.Common.{◌≡◌, ℕ, ◌<◌, Bool, true, false, cond, 
 use borrow.Author.Differences.{ints}
 use lib.IntN.{+ℤ_idr}
 use Rattle.std.proofs.lemmas.List.{append-nil, append_assoc}
+use Rattle.std.proofs.lemmas.Option.{none-some}
 use Rattle.std.proofs.lemmas.Bool.{false≢true}
 use Rattle.faults.specs.declared.Fault.{Fault}
 use Rattle.senses.specs.declared.Sense.{Sense}
@@ -110,9 +111,6 @@ restart_fits : (c : Option ℕ) (v : ℤ) → (restart_change c).counter ≡ Som
 restart_fits None v e = let k : pos 0 ≡ v = cc in subst (λ z. wrapped24 z ≡ z) k zero_fits
 restart_fits (Some n) v e = let k : pos 0 ≡ v = cc in subst (λ z. wrapped24 z ≡ z) k zero_fits
 
-none_some : {A : Type 0} (v : ℤ) → ◌≡◌ {A = Option ℤ} None (Some v) → A
-none_some v e = let z : ◌≡◌ {A = ℕ} 0 1 = cc in absurd (omega arith)
-
 change_fits : (c : Option ℕ) (o : Order) (v : ℤ) → CounterFits o → (order_change c o).counter ≡ Some v → wrapped24 v ≡ v
 change_fits c o v f e = search (rules, zero_fits, within_fits, restart_fits)
 
@@ -153,8 +151,8 @@ module _ (cycle : ℕ) (r : Rest) (k : Kept) where
       choose (λ (x : Outcome Rest (Option Fault)). (left r x).axis.counter ≡ v) (clears o) (restarted (obeyed_rest r o) t) (accepted (obeyed_rest r o) u) c c
 
   set_by : (to : Addressee) (j : Option (Result Order Fault)) (v : ℤ) → counter_set r j ≡ Some v → (left r (outcome_of cycle r to j)).axis.counter ≡ v
-  set_by to None v e = none_some v e
-  set_by to (Some (Err f)) v e = none_some v e
+  set_by to None v e = absurd (none-some v e)
+  set_by to (Some (Err f)) v e = absurd (none-some v e)
   set_by to (Some (Ok o)) v e = by_asking _ _ o v e (asks o) refl
 
   set_value : (v : ℤ) → counter_set r (judged_line r k) ≡ Some v → (left r (line_outcome cycle r k)).axis.counter ≡ v
@@ -162,8 +160,8 @@ module _ (cycle : ℕ) (r : Rest) (k : Kept) where
   set_value v e = set_by (addressee_in r.control.address k) (judged_line r k) v e
 
   fits_by : (j : Option (Result Order Fault)) → judged_line r k ≡ j → (v : ℤ) → counter_set r j ≡ Some v → wrapped24 v ≡ v
-  fits_by None q v e = none_some v e
-  fits_by (Some (Err f)) q v e = none_some v e
+  fits_by None q v e = absurd (none-some v e)
+  fits_by (Some (Err f)) q v e = absurd (none-some v e)
   fits_by (Some (Ok o)) q v e = judged_fits o q v e
 
   unset_counter : counter_set r (judged_line r k) ≡ None → (left r (line_outcome cycle r k)).axis.counter ≡ r.axis.counter

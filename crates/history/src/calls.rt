@@ -1,12 +1,12 @@
 // The calls of a history, each handed the first records of the phase memory.
 ghost use Rattle.std.specs.Prelude.{◌≡◌, length};
-ghost use Rattle.law.specs.Events.{event, asked, handed, with_room, received as arrived};
+ghost use Rattle.law.specs.Events.{event, asked_by, handed, with_room, received as arrived};
 ghost use Rattle.module.specs.Views.{state_in, state_after, answer_to};
 ghost use Rattle.history.specs.Histories.{shown};
 
 use crate::answer::{Answer, Reply};
 use faults::Fault;
-use law::Call;
+use law::{Action, Call};
 use lines::Character;
 use module::Module;
 use outputs::StepOutput;
@@ -29,30 +29,29 @@ fn character<O: StepOutput>(
     Ok(Answer::Reply(Reply { length, bytes }))
 }
 
-// Makes one call, handed these records.
+// Does what is asked, handed these records.
 fn hand<O: StepOutput>(
     device: &mut Module<O>,
-    call: Call,
+    action: Action,
     memory: &mut [Phase],
 ) -> Result<Answer, Fault>
-    ensures state { state_in O.CYCLE device.new memory.new ≡ state_after O.CYCLE device.old memory.old (handed (length memory.old) (asked call)) }
-    ensures shown { shown result ≡ answer_to O.CYCLE device.old memory.old (handed (length memory.old) (asked call)) }
+    ensures state { state_in O.CYCLE device.new memory.new ≡ state_after O.CYCLE device.old memory.old (handed (length memory.old) (asked_by action)) }
+    ensures shown { shown result ≡ answer_to O.CYCLE device.old memory.old (handed (length memory.old) (asked_by action)) }
 {
-    match call {
-        Call::Character {
+    match action {
+        Action::Character {
             character: received,
             room,
-            ..
         } => character(device, received, room, memory),
-        Call::Tick { .. } => {
+        Action::Tick => {
             let (step, busy) = device.tick(memory)?;
             Ok(Answer::Ticked(step, busy))
         }
-        Call::Levels { value, .. } => {
+        Action::Levels(value) => {
             device.set_levels(value, memory)?;
             Ok(Answer::Done)
         }
-        Call::PowerUp { .. } => {
+        Action::PowerUp => {
             device.power_up(memory)?;
             Ok(Answer::Done)
         }
@@ -69,9 +68,9 @@ pub(crate) fn perform<O: StepOutput>(
     ensures state { state_in O.CYCLE device.new memory.new ≡ state_after O.CYCLE device.old memory.old (event call) }
     ensures shown { shown result ≡ answer_to O.CYCLE device.old memory.old (event call) }
 {
-    let lent = call.lent();
+    let Call { lent, action } = call;
     if lent > memory.len() {
         return Err(Fault::wrong_memory());
     }
-    hand(device, call, &mut memory[..lent])
+    hand(device, action, &mut memory[..lent])
 }

@@ -6,5 +6,6 @@ mod calls;
 mod whole;
 
 pub use answer::{Answer, Reply};
-pub use law::Call;
+pub use law::{Action, Call};
+pub use lines::Character;
 pub use whole::history;

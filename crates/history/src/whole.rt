@@ -12,6 +12,7 @@ use crate::answer::Answer;
 use crate::calls::perform;
 use faults::Fault;
 use law::Call;
+use lines::check_address;
 use module::Module;
 use outputs::StepOutput;
 use phases::Phase;
@@ -19,7 +20,7 @@ use phases::Phase;
 fn accepts(address: u8, records: usize, calls: usize, answers: usize) -> bool
     ensures { result ≡ acceptable address records calls answers }
 {
-    address <= 63 && records == 414 && calls <= answers
+    check_address(address).is_ok() && records == 414 && calls <= answers
 }
 
 // A module over the output, new but for its address.
@@ -44,7 +45,6 @@ pub fn history<O: StepOutput>(
 ) -> Result<Module<O>, O>
     ensures taken { is_ok result ≡ acceptable address (length memory.old) (length calls.now) (length answers.old) }
     ensures refused { IfErr result (λ o. (o ≡ output) × (memory.new ≡ memory.old) × (answers.new ≡ answers.old)) }
-
     ensures state { IfOk result (λ m. state_in O.CYCLE m memory.new ≡ after (module_device O.CYCLE) (started O.CYCLE address (O.meaning output) memory.old) (map event calls.now)) }
     ensures answers { OnOk result (map shown (take (length calls.now) answers.new) ≡ all_answers (module_device O.CYCLE) (begun O.CYCLE address (O.meaning output) memory.old) (map event calls.now)) }
     ensures beyond { drop (length calls.now) answers.new ≡ drop (length calls.now) answers.old }

@@ -1,6 +1,7 @@
 -- Part (a): a history runs as it does without its strangers' lines.
 -- The shorter history's unfinished line is empty while the longer one's is a stranger's.
-use Rattle.std.proofs.Common.{◌≡◌, ℕ, Bool, true, false, cond, List, [], ◌∷◌, ◌++◌, fold, sym, refl, ap, ◌∙◌, subst}
+use Rattle.std.proofs.Common.{◌≡◌, ℕ, Bool, true, false, cond, List, [], ◌∷◌, ◌++◌, sym, refl, ap, ◌∙◌, subst}
+use Rattle.std.proofs.lemmas.List.Sums.{fold_push}
 use Rattle.law.specs.Events.{Event, Answer, heeded}
 use Rattle.lines.specs.Characters.{Character}
 use Rattle.law.specs.Events.Event.{stopped, skipped, letter, ending, tick, levels, power_up}
@@ -9,10 +10,6 @@ use Rattle.law.specs.Device.{Device}
 use Rattle.law.specs.History.{State, at, after, answers, those, line_of, will_be_heeded, stays}
 use Rattle.law.proofs.Lawful.{Lawful}
 use Rattle.law.specs.Law.{told, tells, new, at_end, all_answers, no_strangers}
-
-folded_snoc : {A B : Type 0} (f : B → A → B) (b : B) (xs : List A) (x : A) → fold f b (xs ++ (x ∷ [])) ≡ f (fold f b xs) x
-folded_snoc f b [] x = refl
-folded_snoc f b (y ∷ xs) x = folded_snoc f (f b y) xs x
 
 told_marked : (b : Bool) (m : List Bool) (x : Answer) (xs : List Answer) → (b ≡ false → tells x ≡ false) →
     told xs ≡ told (those m xs) → told (x ∷ xs) ≡ told (those (b ∷ m) (x ∷ xs))
@@ -58,7 +55,7 @@ module _ (D : Device) where
         at_letter c (line_of D xs) x h (stays a (xs ++ (x ∷ [])) h) (will_be_heeded a (xs ++ (x ∷ [])) h)
         (subst (λ l. Agrees (at D c (short (will_be_heeded a (xs ++ (x ∷ [])) h) l)) (those (stays a (xs ++ (x ∷ [])) h) h)
         (stays a (xs ++ (x ∷ [])) h) (at D c l) h)
-        (folded_snoc D.push D.empty xs x) (agrees h c (xs ++ (x ∷ [])) sound e))
+        (fold_push D.push D.empty xs x) (agrees h c (xs ++ (x ∷ [])) sound e))
     agrees (ending ∷ h) c xs sound e =
         at_ending c (line_of D xs) h (stays a [] h) (heeded a xs)
         (λ stranger. L.ignores_strangers c xs sound (ap (λ n. heeded n xs) e ∙ stranger))
@@ -84,7 +81,7 @@ module _ (D : Device) where
         told_marked (will_be_heeded a (xs ++ (x ∷ [])) h) (stays a (xs ++ (x ∷ [])) h) (reply [])
         (answers D (at D c (D.push (line_of D xs) x)) h) (λ stranger. refl)
         (subst (λ l. told (answers D (at D c l) h) ≡ told (those (stays a (xs ++ (x ∷ [])) h) (answers D (at D c l) h)))
-        (folded_snoc D.push D.empty xs x) (same_told h c (xs ++ (x ∷ [])) sound e))
+        (fold_push D.push D.empty xs x) (same_told h c (xs ++ (x ∷ [])) sound e))
     same_told (ending ∷ h) c xs sound e =
         told_marked (heeded a xs) (stays a [] h) (reply (D.finish c (line_of D xs)).1)
         (answers D (at D (D.finish c (line_of D xs)).0 D.empty) h)

@@ -2,7 +2,8 @@
 use Rattle.std.specs.Prelude.{ℕ, Bool, true, false, cond, ◌||◌, List, ℤ, ◌==◌, nat_lt}
 use Rattle.lines.specs.Characters.{Character, is_own, is_broadcast}
 use Rattle.law.specs.declared.Call.{Call}
-use Rattle.law.specs.declared.Call.TheVariants as call
+use Rattle.law.specs.declared.Action.{Action}
+use Rattle.law.specs.declared.Action.TheVariants as action
 
 -- What a call is once it is checked.
 pub data Event : Type 0 where
@@ -28,16 +29,16 @@ received byte false =
 
 -- how many phase records a call is handed, and what it is where these are 414
 abbrev pub lent_to : Call → ℕ
-lent_to (call.Character character room lent) = lent
-lent_to (call.Tick lent) = lent
-lent_to (call.Levels value lent) = lent
-lent_to (call.PowerUp lent) = lent
+lent_to c = c.lent
+
+abbrev pub asked_by : Action → Event
+asked_by (action.Character character room) = with_room room (received character.byte character.damaged)
+asked_by action.Tick = tick
+asked_by (action.Levels value) = levels value
+asked_by action.PowerUp = power_up
 
 abbrev pub asked : Call → Event
-asked (call.Character character room lent) = with_room room (received character.byte character.damaged)
-asked (call.Tick lent) = tick
-asked (call.Levels value lent) = levels value
-asked (call.PowerUp lent) = power_up
+asked c = asked_by c.action
 
 abbrev pub event : Call → Event
 event c = handed (lent_to c) (asked c)

@@ -22,10 +22,10 @@ use Rattle.law.specs.Events.Event.{stopped, skipped, letter, ending, tick, level
 use Rattle.law.specs.History.{State as Whole, next}
 use Rattle.law.specs.Machine.{Kept as WithFault, done_by}
 use Rattle.law.specs.Machine.Outcome.{accepted, restarted as cleared, asks_fault}
-use Rattle.module.specs.Rests.{Rest, powered, changed, stepped, step_made, zeroed, affected, step_of, obeyed_rest, ticked_rest}
+use Rattle.module.specs.Rests.{Rest, powered, changed, stepped, step_made, zeroed, affected, step_of, obeyed_rest, ticked_rest, step_due}
 use Rattle.module.specs.Lines.{asks, clears, outcome_of, judged_line, line_outcome}
 use Rattle.module.specs.Machine.{machine, module_device}
-use Rattle.laws.specs.Powered.{DoingPowered, HasPower, PowerWhileMoving, step_due, NoStepRefused}
+use Rattle.laws.specs.Powered.{DoingPowered, HasPower, PowerWhileMoving, NoStepRefused}
 use Rattle.laws.proofs.Called.{stored_doing}
 
 activity_on : (c : Activity) → ActivityPowered true c

@@ -1,12 +1,10 @@
 -- Power is on while a movement goes on, so no step is refused.
-use Rattle.std.specs.Prelude.{◌≡◌, ℕ, Bool, true, List, ℤ, pos, Some, None, Option}
-use Rattle.senses.specs.declared.Sense.{Sense}
-use Rattle.axis.specs.Axes.{one_step}
+use Rattle.std.specs.Prelude.{◌≡◌, ℕ, Bool, true, List}
 use Rattle.engine.specs.Whole.{ActivityPowered}
 use Rattle.control.specs.States.{Doing, resting, moving, running}
 use Rattle.law.specs.Events.{Event}
 use Rattle.law.specs.History.{State, after}
-use Rattle.module.specs.Rests.{Rest, effects_of, step_of}
+use Rattle.module.specs.Rests.{Rest, effects_of, step_of, step_due}
 use Rattle.module.specs.Machine.{module_device}
 
 abbrev pub DoingPowered : Bool → Doing → Type 0
@@ -22,11 +20,6 @@ HasPower r = DoingPowered r.axis.power r.control.doing
 abbrev pub PowerWhileMoving : Type 0
 PowerWhileMoving = (cycle : ℕ) (s : State (module_device cycle)) (h : List Event) → HasPower s.core.rest → HasPower (after (module_device cycle) s h).core.rest
 
--- the step that is due in a tick
-abbrev pub step_due : Option Sense → ℤ
-step_due None = pos 0
-step_due (Some s) = one_step s
-
--- it is made: the output does not refuse it
+-- the step that is due in a tick is made: the output does not refuse it
 abbrev pub NoStepRefused : Type 0
 NoStepRefused = (r : Rest) → HasPower r → step_of (effects_of r) r.axis ≡ step_due (effects_of r).step

@@ -1,6 +1,6 @@
 -- What is kept of a line beside the list of its characters.
 use Rattle.std.proofs.Common.{◌≡◌, ℕ, ◌-◌, ◌<◌, ◌≤◌, min, Bool, true, false, cond, ◌&&◌, ◌||◌, ltb, leb, ◌⊎◌, List, [], ◌∷◌, ◌++◌, length, take, drop, Ok, Err, Result, sym, refl, ap, ◌∙◌, inl, inr, ⊎_elim, arith}
-use Rattle.std.proofs.lemmas.List.{length-append, length-take, length-map, map-append, take_all, take_rest, drop_all, take-append-le}
+use Rattle.std.proofs.lemmas.List.{length-append, length-take, length-map, map-append, take_all, take_rest, drop_min, take-append-le}
 use Rattle.std.proofs.lemmas.Bool.{cond-true, cond-false, cases_lt, ne_eqb, eq-eqb, le-leb, lt-leb, lt-ltb, le-ltb, or_right}
 use Rattle.faults.specs.declared.Fault.{Fault}
 use Rattle.lines.specs.declared.line.Addressee.TheVariants.{Own, Broadcast, Stranger}
@@ -136,11 +136,7 @@ going_of cs c false false = taken_of cs c
 pub kept_going : (h : Kept) (cs : List Character) (c : Character) → h ≡ kept_of cs → going h c ≡ kept_of (unfinished cs c)
 kept_going h cs c e = ap (λ k. going k c) e ∙ going_of cs c (ends c) (skipped c)
 
-drop_min : (n : ℕ) (s : List ℕ) → (n < length s) ⊎ (length s ≤ n) → drop (min n (length s)) s ≡ drop n s
-drop_min n s (inl l) = let e : min n (length s) ≡ n = omega arith in ap (λ k. drop k s) e
-drop_min n s (inr l) = drop_all _ s (omega arith) ∙ sym (drop_all n s l)
-
 -- what is left of the kept characters s
 pub part_is : (s t : List ℕ) (from n : ℕ) (b : Bool) → b ≡ false → s ≡ t → n ≡ min from (length s) → ◌≡◌ {A = Result (List ℕ) Fault} (Ok (take (length s - n) (drop n s))) (cond b (Err bad_line) (Ok (drop from t)))
 part_is s t from n b e f g =
-    ap Ok (take_rest s n ∙ ap (λ k. drop k s) g ∙ drop_min from s (cases_lt from (length s)) ∙ ap (drop from) f) ∙ sym (cond-false b (Err bad_line) (Ok (drop from t)) e)
+    ap Ok (take_rest s n ∙ ap (λ k. drop k s) g ∙ drop_min from s ∙ ap (drop from) f) ∙ sym (cond-false b (Err bad_line) (Ok (drop from t)) e)

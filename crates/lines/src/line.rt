@@ -13,7 +13,7 @@ pub enum Addressee {
 
 // The first 64 characters, whether the first and the second were damaged, and whether the line is
 // refused: any was damaged, or there were more than 64. A fixed array with its length: a device has no heap, and a line is copied.
-// Each flag is a fact of its own, with no value beside it.
+// The flags go with no value: two are asked for whom the line is, the third whether it is read.
 #[derive(Clone, Copy)]
 pub struct Line {
     bytes: [u8; 64],

@@ -1,7 +1,8 @@
 -- What becomes of a line: the answer, the sequences and the records behind it.
-use Rattle.std.specs.Prelude.{ℕ, cond, List, [], is_ok, Some, None, Ok, Err, Option, Result, nat_le}
+use Rattle.std.specs.Prelude.{ℕ, cond, List, [], is_ok, Some, None, Ok, Err, Option, Result}
 use Rattle.faults.specs.declared.Fault.{Fault}
-use Rattle.faults.specs.Faults.{and_then, wrong_address}
+use Rattle.faults.specs.Faults.{and_then}
+use Rattle.lines.specs.Addresses.{address_answer}
 use Rattle.lines.specs.Lines.{Kept, kept, kept_of}
 use Rattle.phases.specs.declared.phase.Phase.{Phase}
 use Rattle.store.specs.declared.directory.Block.{Block}
@@ -35,7 +36,7 @@ state_of (Ok l) = Ok (state l)
 state_of (Err f) = Err f
 
 abbrev pub made_at : ℕ → Result State Fault
-made_at a = cond (nat_le a 63) (Ok (fresh a)) (Err wrong_address)
+made_at a = and_then (address_answer a) (λ _. Ok (fresh a))
 
 -- the store's row: what the store answers to an order
 abbrev pub carried : List Block → List Phase → Order → Result Done Fault

@@ -7,13 +7,13 @@ use Rattle.lines.specs.Lines.{Kept}
 use Rattle.commands.specs.declared.command.Command.{Command}
 use Rattle.commands.specs.declared.command.Command.TheVariants.{StartSpeed, PlateauSpeed, Slope, Distance, Forward, Back, ZeroCounter, SetCounter, Move, MoveToOrigin, MoveTo, SlowStop, PowerOn, PowerOff, SetOutputs, Create, Erase, Choose, Start, Write, ReadPhase, Restart, ReadParameters, ReadPosition, ReadVersion, ReadFault}
 use Rattle.commands.specs.Reading.{command_in}
-use Rattle.values.specs.Values.{address_values, erase_value, sp_values}
+use Rattle.values.specs.Values.{address_values, block_values, erase_value, sp_values}
 use Rattle.loader.specs.declared.order.Order.{Order}
 use Rattle.loader.specs.declared.order.Order.TheVariants as o
 
 -- a command of the phase memory, its values within their limits; the other commands ask nothing of it
 abbrev pub order_of : Command → Result Order Fault
-order_of (Create a) = and_then (address_values a) (λ p. Ok (o.Create (record { number = p.sequence; reserve = p.phase })))
+order_of (Create a) = and_then (block_values a) (λ b. Ok (o.Create b))
 order_of (Erase n) = and_then (erase_value n) (λ m. Ok (o.Erase m))
 order_of (Write p) = and_then (sp_values p) (λ a. Ok (o.Write a.0 a.1))
 order_of (ReadPhase a) = and_then (address_values a) (λ p. Ok (o.Read p))
@@ -40,10 +40,6 @@ order_of ReadPosition = Ok o.Other
 order_of ReadVersion = Ok o.Other
 order_of ReadFault = Ok o.Other
 
--- the order of a command that was read
-abbrev pub ordered : Option (Result Command Fault) → Option (Result Order Fault)
-ordered c = option_map (λ r. and_then r order_of) c
-
 -- the order of a line at a module of the address; none of a stranger's
 abbrev pub order_in : ℕ → Kept → Option (Result Order Fault)
-order_in address k = ordered (command_in address k)
+order_in address k = option_map (λ r. and_then r order_of) (command_in address k)

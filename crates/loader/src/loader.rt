@@ -9,7 +9,7 @@ ghost use Rattle.loader.specs.Loading.{state, state_of, made_at, carried, carrie
 
 use crate::order::{Done, Order, read_order};
 use faults::Fault;
-use lines::{Character, Line, Receiver};
+use lines::{Character, Line, Receiver, check_address};
 use phases::{Phase, Position};
 use store::Directory;
 
@@ -33,9 +33,7 @@ impl Loader {
     pub fn new(address: u8) -> Result<Loader, Fault>
         ensures { state_of result ≡ made_at address }
     {
-        if address > 63 {
-            return Err(Fault::wrong_address());
-        }
+        check_address(address)?;
         Ok(Loader {
             address,
             receiver: Receiver::new(),

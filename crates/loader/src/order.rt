@@ -8,9 +8,10 @@ use faults::Fault;
 use lines::Line;
 use phases::{Phase, Position};
 use store::Block;
-use values::{address_values, erase_value, sp_values};
+use values::{address_values, block_values, erase_value, sp_values};
 
-// A command of the phase memory, its values within their limits. The other commands are the module's.
+// A command of the phase memory, its values within their limits. The other commands are the module's: a case and no None, which is
+// a stranger's line, while these are accepted.
 #[derive(Clone, Copy)]
 pub enum Order {
     Create(Block),
@@ -21,7 +22,7 @@ pub enum Order {
 }
 
 // What an accepted order did: it changed the memory, it found a phase or an unwritten one, or it does
-// not concern the memory.
+// not concern the memory, and is accepted for all that.
 #[derive(Clone, Copy)]
 pub enum Done {
     Stored,
@@ -29,27 +30,21 @@ pub enum Done {
     Other,
 }
 
-// The values of a command held against their limits. The same arms stand in the row of values of `orders`, beside twenty others: one
-// function for both would hand back what each takes apart again.
+// The values of a command held against their limits. The row of values of `orders` calls the same functions of `values`, for orders of
+// its own: one function for both would hand back what each takes apart again.
 fn order_of(command: Command) -> Result<Order, Fault>
     ensures { result ≡ order_of command }
 {
-    match command {
-        Command::Create(address) => {
-            let Position { sequence, phase } = address_values(address)?;
-            Ok(Order::Create(Block {
-                number: sequence,
-                reserve: phase,
-            }))
-        }
-        Command::Erase(n) => Ok(Order::Erase(erase_value(n)?)),
+    Ok(match command {
+        Command::Create(address) => Order::Create(block_values(address)?),
+        Command::Erase(n) => Order::Erase(erase_value(n)?),
         Command::Write(raw) => {
             let (at, phase) = sp_values(raw)?;
-            Ok(Order::Write { at, phase })
+            Order::Write { at, phase }
         }
-        Command::ReadPhase(address) => Ok(Order::Read(address_values(address)?)),
-        _ => Ok(Order::Other),
-    }
+        Command::ReadPhase(address) => Order::Read(address_values(address)?),
+        _ => Order::Other,
+    })
 }
 
 // The order of a line at a module of the address, or why the line is refused; none for a stranger's line.

@@ -43,6 +43,11 @@ abbrev pub step_made : Option Sense → AxisState → ℤ
 step_made None a = pos 0
 step_made (Some s) a = cond a.power (one_step s) (pos 0)
 
+-- a step that is made moves a place by so much, and none by 0
+abbrev pub step_due : Option Sense → ℤ
+step_due None = pos 0
+step_due (Some s) = one_step s
+
 abbrev pub zeroed : Bool → AxisState → AxisState
 zeroed zero a = cond zero (with_counter (pos 0) a) a
 

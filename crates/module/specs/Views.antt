@@ -1,7 +1,7 @@
 -- The state of a module in the code, and what its calls answer.
-use Rattle.std.specs.Prelude.{ℕ, Bool, cond, List, length, ℤ, Ok, Err, Option, Result, ◌==◌, nat_le}
+use Rattle.std.specs.Prelude.{ℕ, Bool, cond, List, length, ℤ, Ok, Err, Option, Result, ◌==◌}
 use Rattle.faults.specs.declared.Fault.{Fault}
-use Rattle.faults.specs.Faults.{wrong_memory, short_reply, wrong_address}
+use Rattle.faults.specs.Faults.{wrong_memory, short_reply}
 use Rattle.lines.specs.Lines.{kept}
 use Rattle.phases.specs.declared.phase.Phase.{Phase}
 use Rattle.replies.specs.Replies.{over}
@@ -70,7 +70,3 @@ plain_answer (refused code) = Err (caller_fault code)
 plain_answer (reply t) = Ok tt
 plain_answer (ticked step busy) = Ok tt
 plain_answer done = Ok tt
-
--- an address above 63 is refused
-abbrev pub address_answer : ℕ → Result (Unit {0}) Fault
-address_answer n = cond (nat_le n 63) (Ok tt) (Err wrong_address)

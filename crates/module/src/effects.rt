@@ -1,8 +1,8 @@
 // The axis moved as orders and ticks say.
 ghost use Rattle.std.specs.Prelude.{◌≡◌};
-ghost use Rattle.module.specs.Rests.{powered, changed, stepped, step_made, affected, step_of};
+ghost use Rattle.module.specs.Rests.{powered, changed, stepped, step_made, step_due, affected, step_of};
 
-use axis::{Axis, signed};
+use axis::Axis;
 use control::Change;
 use engine::{Effects, Power};
 use outputs::StepOutput;
@@ -26,20 +26,18 @@ pub(crate) fn change<O: StepOutput>(axis: &mut Axis<O>, change: Change)
     switch(axis, change.power);
 }
 
-// Asks for a step, if one is due, and answers what was made, as a number that can be added to a place.
-fn step<O: StepOutput>(axis: &mut Axis<O>, due: Option<Sense>) -> i8
-    ensures made { result ≡ step_made due axis.old.state }
+// Asks for a step, if one is due, and answers it where it is made.
+fn step<O: StepOutput>(axis: &mut Axis<O>, due: Option<Sense>) -> Option<Sense>
+    ensures made { step_due result ≡ step_made due axis.old.state }
     ensures axis { axis.new.state ≡ stepped due axis.old.state }
 {
-    let Some(sense) = due else {
-        return 0;
-    };
-    if axis.step(sense) { signed(sense) } else { 0 }
+    let sense = due?;
+    axis.step(sense).then_some(sense)
 }
 
-// What a tick does to the axis; answers the step made, as a number.
-pub(crate) fn affect<O: StepOutput>(axis: &mut Axis<O>, effects: &Effects) -> i8
-    ensures made { result ≡ step_of effects.now axis.old.state }
+// What a tick does to the axis; answers the step where one is made.
+pub(crate) fn affect<O: StepOutput>(axis: &mut Axis<O>, effects: &Effects) -> Option<Sense>
+    ensures made { step_due result ≡ step_of effects.now axis.old.state }
     ensures axis { axis.new.state ≡ affected effects.now axis.old.state }
 {
     switch(axis, effects.power);

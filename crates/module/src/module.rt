@@ -1,5 +1,5 @@
 // The module over a step output. The records and the reply buffer are lent by the caller for one call each, so that they go through
-// the methods side by side.
+// the methods side by side. What stays behind a private call is a fact of that call, which no invariant could say.
 use axis::Axis;
 use control::Control;
 use faults::Fault;

@@ -4,7 +4,7 @@ ghost use Rattle.std.specs.Prelude.{◌≤◌};
 mod limits;
 
 // A speed in steps per second.
-#[derive(Clone, Copy)]
+#[derive(Clone, Copy, PartialEq, Eq, PartialOrd, Ord)]
 pub struct Speed {
     pub(crate) value: u16,
     ghost least: { 20 ≤ value },

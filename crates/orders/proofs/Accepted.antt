@@ -1,26 +1,26 @@
 -- What an accepted line sets the counter to has 24 bits.
-use Rattle.std.proofs.Common.{◌≡◌, ℕ, Bool, true, false, cond, ◌&&◌, List, ℤ, pos, negsuc, ◌≤ℤ◌, Some, Ok, Err, Option, Result, refl, subst, arith}
+use Rattle.std.proofs.Common.{◌≡◌, ℕ, Bool, true, false, ◌&&◌, List, ℤ, pos, negsuc, ◌≤ℤ◌, Some, Ok, Option, Result, subst, arith}
 use borrow.Author.Differences.{ints}
 use lib.Signed.{le_z}
 use Rattle.std.proofs.lemmas.Bool.{and_parts}
 use Rattle.faults.specs.declared.Fault.{Fault}
 use Rattle.faults.specs.Faults.{and_then, past_limit}
+use Rattle.faults.proofs.Results.{then_ok, tested}
 use Rattle.lines.specs.declared.line.Addressee.{Addressee}
 use Rattle.lines.specs.declared.line.Addressee.TheVariants.{Own, Broadcast, Stranger}
-use Rattle.lines.specs.Lines.{Kept, addressee_in, text_in}
-use Rattle.words.specs.Words.{words}
+use Rattle.lines.specs.Lines.{Kept, addressee_in}
 use Rattle.commands.specs.declared.command.Command.{Command}
 use Rattle.commands.specs.declared.command.Command.TheVariants.{StartSpeed, PlateauSpeed, Slope, Distance, Forward, Back, ZeroCounter, SetCounter, Move, MoveToOrigin, MoveTo, SlowStop, PowerOn, PowerOff, SetOutputs, Create, Erase, Choose, Start, Write, ReadPhase, Restart, ReadParameters, ReadPosition, ReadVersion, ReadFault}
-use Rattle.commands.specs.Reading.{read_from}
-use Rattle.values.specs.Values.{address_values, erase_value, sp_values}
+use Rattle.commands.specs.Reading.{command_behind}
+use Rattle.values.specs.Values.{sequence_value, address_values, block_values, erase_value, sp_values}
 use Rattle.store.specs.declared.directory.Block.{Block}
 use Rattle.orders.specs.declared.order.Situation.{Situation}
 use Rattle.orders.specs.declared.order.Order.{Order}
 use Rattle.orders.specs.declared.order.Order.TheVariants as order
 use Rattle.orders.specs.State.{state_row}
 use Rattle.orders.specs.Store.{store_row}
-use Rattle.orders.specs.Values.{start_speed, plateau_speed, slope, distance, position, outputs, sequence, values_row}
-use Rattle.orders.specs.Judged.{ordered, judged_to, judged}
+use Rattle.orders.specs.Values.{start_speed, plateau_speed, slope, distance, position, outputs, values_row}
+use Rattle.orders.specs.Judged.{by_rows, judged_to, judged}
 
 -- a number that DP takes
 abbrev pub Within : ℤ → Type 0
@@ -54,14 +54,6 @@ CounterFits order.ReadPosition = Unit {0}
 CounterFits order.ReadVersion = Unit {0}
 CounterFits order.ReadFault = Unit {0}
 
-then_ok : {A B : Type 0} (r : Result A Fault) (f : A → Result B Fault) (b : B) → and_then r f ≡ Ok b → (a : A) × ((r ≡ Ok a) × (f a ≡ Ok b))
-then_ok (Ok x) f b e = (x, (refl, e))
-then_ok (Err x) f b e = let z : ◌≡◌ {A = ℕ} 0 1 = cc in absurd (omega arith)
-
-tested : (b : Bool) (x y : ℤ) (f : Fault) → ◌≡◌ {A = Result ℤ Fault} (cond b (Ok x) (Err f)) (Ok y) → (b ≡ true) × (x ≡ y)
-tested true x y f e = (refl, cc)
-tested false x y f e = let z : ◌≡◌ {A = ℕ} 0 1 = cc in absurd (omega arith)
-
 le_true : (x y : ℤ) → le_z x y ≡ true → x ≤ℤ y
 le_true x y e = grind (arith, ints)
 
@@ -87,10 +79,10 @@ values_fit at SlowStop o e = let k : order.SlowStop ≡ o = cc in subst CounterF
 values_fit at PowerOn o e = let k : order.PowerOn ≡ o = cc in subst CounterFits k tt
 values_fit at PowerOff o e = let k : order.PowerOff ≡ o = cc in subst CounterFits k tt
 values_fit at (SetOutputs n) o e = let t = then_ok (outputs n) _ o e in let k : order.SetOutputs t.0 ≡ o = cc t.1.1 in subst CounterFits k tt
-values_fit at (Create a) o e = let t = then_ok (address_values a) _ o e in let k : order.Create (record { number = t.0.sequence; reserve = t.0.phase }) ≡ o = cc t.1.1 in subst CounterFits k tt
+values_fit at (Create a) o e = let t = then_ok (block_values a) _ o e in let k : order.Create t.0 ≡ o = cc t.1.1 in subst CounterFits k tt
 values_fit at (Erase n) o e = let t = then_ok (erase_value n) _ o e in let k : order.Erase t.0 ≡ o = cc t.1.1 in subst CounterFits k tt
-values_fit at (Choose n) o e = let t = then_ok (sequence n) _ o e in let k : order.Choose t.0 ≡ o = cc t.1.1 in subst CounterFits k tt
-values_fit at (Start n) o e = let t = then_ok (sequence n) _ o e in let k : order.Start t.0 ≡ o = cc t.1.1 in subst CounterFits k tt
+values_fit at (Choose n) o e = let t = then_ok (sequence_value n) _ o e in let k : order.Choose t.0 ≡ o = cc t.1.1 in subst CounterFits k tt
+values_fit at (Start n) o e = let t = then_ok (sequence_value n) _ o e in let k : order.Start t.0 ≡ o = cc t.1.1 in subst CounterFits k tt
 values_fit at (Write n) o e = let t = then_ok (sp_values n) _ o e in let k : order.Write t.0.0 t.0.1 ≡ o = cc t.1.1 in subst CounterFits k tt
 values_fit at (ReadPhase a) o e = let t = then_ok (address_values a) _ o e in let k : order.ReadPhase t.0 ≡ o = cc t.1.1 in subst CounterFits k tt
 values_fit at Restart o e = let k : order.Restart ≡ o = cc in subst CounterFits k tt
@@ -99,11 +91,9 @@ values_fit at ReadPosition o e = let k : order.ReadPosition ≡ o = cc in subst 
 values_fit at ReadVersion o e = let k : order.ReadVersion ≡ o = cc in subst CounterFits k tt
 values_fit at ReadFault o e = let k : order.ReadFault ≡ o = cc in subst CounterFits k tt
 
-ordered_fits : (from : ℕ) (b : Bool) (at : Situation) (bs : List Block) (k : Kept) (o : Order) → ordered from b at bs k ≡ Ok o → CounterFits o
-unfolding ordered
-ordered_fits from b at bs k o e =
-    let t = then_ok (text_in from k) _ o e in
-    let c = then_ok (read_from b (words t.0)) _ o t.1.1 in
+rows_fit : (at : Situation) (bs : List Block) (r : Result Command Fault) (o : Order) → and_then r (by_rows at bs) ≡ Ok o → CounterFits o
+rows_fit at bs r o e =
+    let c = then_ok r _ o e in
     let s = then_ok (state_row at.busy c.0) _ o c.1.1 in
     let v = then_ok (values_row at c.0) _ o s.1.1 in
     let r = then_ok (store_row bs v.0) _ o v.1.1 in
@@ -114,9 +104,9 @@ some_ok : (r : Result Order Fault) (o : Order) → ◌≡◌ {A = Option (Result
 some_ok r o e = cc
 
 to_fits : (to : Addressee) (at : Situation) (bs : List Block) (k : Kept) (o : Order) → judged_to to at bs k ≡ Some (Ok o) → CounterFits o
-to_fits Own at bs k o e = ordered_fits 2 false at bs k o (some_ok _ o e)
-to_fits Broadcast at bs k o e = ordered_fits 0 true at bs k o (some_ok _ o e)
-to_fits Stranger at bs k o e = let z : ◌≡◌ {A = ℕ} 0 1 = cc in absurd (omega arith)
+to_fits Own at bs k o e = rows_fit at bs (command_behind 2 false k) o (some_ok _ o e)
+to_fits Broadcast at bs k o e = rows_fit at bs (command_behind 0 true k) o (some_ok _ o e)
+to_fits Stranger at bs k o e = cc
 
 -- an accepted DP has its number within the limits
 pub accepted_fits : (at : Situation) (bs : List Block) (k : Kept) (o : Order) → judged at bs k ≡ Some (Ok o) → CounterFits o

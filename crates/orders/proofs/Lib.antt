@@ -1,2 +1,1 @@
 pub mod Accepted
-mod BehindReader

@@ -1,13 +1,12 @@
 -- All rows in their order.
-use Rattle.std.specs.Prelude.{ℕ, Bool, true, false, List, Some, None, Ok, Option, Result}
+use Rattle.std.specs.Prelude.{List, Ok, Option, Result}
+use Rattle.std.specs.Option.{option_map}
 use Rattle.faults.specs.declared.Fault.{Fault}
 use Rattle.faults.specs.Faults.{and_then}
 use Rattle.lines.specs.declared.line.Addressee.{Addressee}
-use Rattle.lines.specs.declared.line.Addressee.TheVariants.{Own, Broadcast, Stranger}
-use Rattle.lines.specs.Lines.{Kept, addressee_in, text_in}
-use Rattle.words.specs.Words.{words}
+use Rattle.lines.specs.Lines.{Kept, addressee_in}
 use Rattle.commands.specs.declared.command.Command.{Command}
-use Rattle.commands.specs.Reading.{read_from}
+use Rattle.commands.specs.Reading.{command_to}
 use Rattle.store.specs.declared.directory.Block.{Block}
 use Rattle.orders.specs.declared.order.Situation.{Situation}
 use Rattle.orders.specs.declared.order.Order.{Order}
@@ -23,18 +22,9 @@ by_rows at bs c =
     and_then (store_row bs o) (λ _.
     Ok o)))
 
--- receiver, reader, state, values, store; the first row that refuses decides
-unfoldable pub ordered : ℕ → Bool → Situation → List Block → Kept → Result Order Fault
-ordered from broadcast at bs k =
-    and_then (text_in from k) (λ text.
-    and_then (read_from broadcast (words text)) (λ c.
-    by_rows at bs c))
-
--- an own line is read behind its address, a broadcast from its first character, a stranger's line not at all
+-- receiver, reader, state, values, store; the first row that refuses decides. A stranger's line is not read
 abbrev pub judged_to : Addressee → Situation → List Block → Kept → Option (Result Order Fault)
-judged_to Own at bs k = Some (ordered 2 false at bs k)
-judged_to Broadcast at bs k = Some (ordered 0 true at bs k)
-judged_to Stranger at bs k = None
+judged_to to at bs k = option_map (λ c. and_then c (by_rows at bs)) (command_to to k)
 
 abbrev pub judged : Situation → List Block → Kept → Option (Result Order Fault)
 judged at bs k = judged_to (addressee_in at.address k) at bs k

@@ -4,7 +4,7 @@ use Rattle.faults.specs.declared.Fault.{Fault}
 use Rattle.faults.specs.Faults.{and_then, past_limit, start_past_plateau}
 use Rattle.commands.specs.declared.command.Command.{Command}
 use Rattle.commands.specs.declared.command.Command.TheVariants.{StartSpeed, PlateauSpeed, Slope, Distance, Forward, Back, ZeroCounter, SetCounter, Move, MoveToOrigin, MoveTo, SlowStop, PowerOn, PowerOff, SetOutputs, Create, Erase, Choose, Start, Write, ReadPhase, Restart, ReadParameters, ReadPosition, ReadVersion, ReadFault}
-use Rattle.values.specs.Values.{within as number_within, address_values, erase_value, sp_values}
+use Rattle.values.specs.Values.{within as number_within, sequence_value, address_values, block_values, erase_value, sp_values}
 use Rattle.orders.specs.declared.order.Situation.{Situation}
 use Rattle.orders.specs.declared.order.Order.{Order}
 use Rattle.orders.specs.declared.order.Order.TheVariants as o
@@ -17,11 +17,14 @@ abbrev pub speed : ℕ → Result ℕ Fault
 speed n = within 20 20000 n
 
 -- 9: the start speed would pass the plateau speed
+abbrev pub in_order : ℕ → ℕ → Result (Unit {0}) Fault
+in_order start plateau = cond (nat_lt plateau start) (Err start_past_plateau) (Ok tt)
+
 abbrev pub start_speed : ℕ → ℕ → Result ℕ Fault
-start_speed plateau n = and_then (speed n) (λ m. cond (nat_lt plateau m) (Err start_past_plateau) (Ok m))
+start_speed plateau n = and_then (speed n) (λ m. and_then (in_order m plateau) (λ _. Ok m))
 
 abbrev pub plateau_speed : ℕ → ℕ → Result ℕ Fault
-plateau_speed start n = and_then (speed n) (λ m. cond (nat_lt m start) (Err start_past_plateau) (Ok m))
+plateau_speed start n = and_then (speed n) (λ m. and_then (in_order start m) (λ _. Ok m))
 
 abbrev pub slope : ℕ → Result ℕ Fault
 slope n = within 1 65000 n
@@ -34,9 +37,6 @@ position z = cond (int_le (negsuc 8388605) z && int_le z (pos 8388606)) (Ok z) (
 
 abbrev pub outputs : ℕ → Result ℕ Fault
 outputs n = within 0 255 n
-
-abbrev pub sequence : ℕ → Result ℕ Fault
-sequence n = within 1 99 n
 
 -- the order that a value within its limits makes
 abbrev pub with_value : {A : Type 0} → Result A Fault → (A → Order) → Result Order Fault
@@ -58,10 +58,10 @@ values_row at SlowStop = Ok o.SlowStop
 values_row at PowerOn = Ok o.PowerOn
 values_row at PowerOff = Ok o.PowerOff
 values_row at (SetOutputs n) = with_value (outputs n) o.SetOutputs
-values_row at (Create a) = with_value (address_values a) (λ p. o.Create (record { number = p.sequence; reserve = p.phase }))
+values_row at (Create a) = with_value (block_values a) o.Create
 values_row at (Erase n) = with_value (erase_value n) o.Erase
-values_row at (Choose n) = with_value (sequence n) o.Choose
-values_row at (Start n) = with_value (sequence n) o.Start
+values_row at (Choose n) = with_value (sequence_value n) o.Choose
+values_row at (Start n) = with_value (sequence_value n) o.Start
 values_row at (Write p) = with_value (sp_values p) (λ a. o.Write a.0 a.1)
 values_row at (ReadPhase a) = with_value (address_values a) o.ReadPhase
 values_row at Restart = Ok o.Restart

@@ -1,4 +1,4 @@
-// An order: a command whose values are within their limits.
+// An order: a command whose values are within their limits, and so of narrower types than a command's, which may be any number.
 use phases::{Phase, Position};
 use store::Block;
 

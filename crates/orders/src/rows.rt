@@ -24,13 +24,8 @@ fn order(command: Command, at: Situation, directory: &Directory) -> Result<Order
 }
 
 // What a finished line comes to: none for a stranger's.
-#[tactic(auto, using(crate::proofs::BehindReader::judged_none))]
 pub fn judge(line: &Line, at: Situation, directory: &Directory) -> Option<Result<Order, Fault>>
     ensures { result ≡ judged at (sequences directory.now) (kept line.now) }
 {
-    // With `and_then` and a closure the proof did not close.
-    match read_line(line, at.address)? {
-        Ok(command) => Some(order(command, at, directory)),
-        Err(fault) => Some(Err(fault)),
-    }
+    read_line(line, at.address).map(|read| read.and_then(|command| order(command, at, directory)))
 }

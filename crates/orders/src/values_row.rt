@@ -1,13 +1,11 @@
 // The row values: each number within its limits, the leftmost word first. Each kind of number has its name and one call of `within`.
 ghost use Rattle.std.specs.Prelude.{◌≡◌};
-ghost use Rattle.orders.specs.Values.{speed as speed_of, start_speed, plateau_speed, slope as slope_of, distance as distance_of, position as position_of, outputs as outputs_of, sequence as sequence_of, values_row};
+ghost use Rattle.orders.specs.Values.{speed as speed_of, start_speed, plateau_speed, in_order, slope as slope_of, distance as distance_of, position as position_of, outputs as outputs_of, values_row};
 
 use crate::order::{Order, Situation};
 use commands::Command;
 use faults::Fault;
-use phases::Position;
-use store::Block;
-use values::{address_values, erase_value, sp_values, within};
+use values::{address_values, block_values, erase_value, sequence_value, sp_values, within};
 
 fn speed(n: u64) -> Result<u16, Fault>
     ensures { result ≡ speed_of n }
@@ -16,25 +14,29 @@ fn speed(n: u64) -> Result<u16, Fault>
 }
 
 // The start speed is at most the plateau speed.
+fn in_order(start: u16, plateau: u16) -> Result<(), Fault>
+    ensures { result ≡ in_order start plateau }
+{
+    if start > plateau {
+        return Err(Fault::start_past_plateau());
+    }
+    Ok(())
+}
+
 fn start_speed(n: u64, plateau: u16) -> Result<u16, Fault>
     ensures { result ≡ start_speed plateau n }
 {
-    let n = speed(n)?;
-    if n > plateau {
-        return Err(Fault::start_past_plateau());
-    }
-    Ok(n)
+    let start = speed(n)?;
+    in_order(start, plateau)?;
+    Ok(start)
 }
 
-// The plateau speed is at least the start speed.
 fn plateau_speed(n: u64, start: u16) -> Result<u16, Fault>
     ensures { result ≡ plateau_speed start n }
 {
-    let n = speed(n)?;
-    if n < start {
-        return Err(Fault::start_past_plateau());
-    }
-    Ok(n)
+    let plateau = speed(n)?;
+    in_order(start, plateau)?;
+    Ok(plateau)
 }
 
 fn slope(n: u64) -> Result<u16, Fault>
@@ -49,14 +51,13 @@ fn distance(n: u64) -> Result<u32, Fault>
     within(0, 999_998, Fault::past_limit(2), n)
 }
 
-// A position that the counter can be set to. It has a sign, which no number that `within` tests has. The limits lie within an i32.
+// A position that the counter can be set to. It has a sign, which no number that `within` tests has.
 fn position(n: i64) -> Result<i32, Fault>
     ensures { result ≡ position_of n }
 {
-    if -8_388_606 <= n && n <= 8_388_606 {
-        Ok(n as i32)
-    } else {
-        Err(Fault::past_limit(2))
+    match i32::try_from(n) {
+        Ok(n) if (-8_388_606..=8_388_606).contains(&n) => Ok(n),
+        _ => Err(Fault::past_limit(2)),
     }
 }
 
@@ -66,48 +67,43 @@ fn outputs(n: u64) -> Result<u8, Fault>
     within(0, 255, Fault::past_limit(2), n)
 }
 
-fn sequence(n: u64) -> Result<u8, Fault>
-    ensures { result ≡ sequence_of n }
-{
-    within(1, 99, Fault::past_limit(2), n)
-}
-
 // Holds the numbers of a command against their limits.
 pub(crate) fn check_values(command: Command, at: Situation) -> Result<Order, Fault>
     ensures { result ≡ values_row at command }
 {
-    match command {
-        Command::StartSpeed(n) => Ok(Order::StartSpeed(start_speed(n, at.plateau_speed)?)),
-        Command::PlateauSpeed(n) => Ok(Order::PlateauSpeed(plateau_speed(n, at.start_speed)?)),
-        Command::Slope(n) => Ok(Order::Slope(slope(n)?)),
-        Command::Distance(n) => Ok(Order::Distance(distance(n)?)),
-        Command::Forward => Ok(Order::Forward),
-        Command::Back => Ok(Order::Back),
-        Command::ZeroCounter => Ok(Order::ZeroCounter),
-        Command::SetCounter(n) => Ok(Order::SetCounter(position(n)?)),
-        Command::Move => Ok(Order::Move),
-        Command::MoveToOrigin => Ok(Order::MoveToOrigin),
-        Command::MoveTo(n) => Ok(Order::MoveTo(position(n)?)),
-        Command::SlowStop => Ok(Order::SlowStop),
-        Command::PowerOn => Ok(Order::PowerOn),
-        Command::PowerOff => Ok(Order::PowerOff),
-        Command::SetOutputs(n) => Ok(Order::SetOutputs(outputs(n)?)),
-        Command::Create(address) => {
-            let Position { sequence, phase } = address_values(address)?;
-            Ok(Order::Create(Block {
-                number: sequence,
-                reserve: phase,
-            }))
+    Ok(match command {
+        Command::StartSpeed(n) => Order::StartSpeed(start_speed(n, at.plateau_speed)?),
+        Command::PlateauSpeed(n) => Order::PlateauSpeed(plateau_speed(n, at.start_speed)?),
+        Command::Slope(n) => Order::Slope(slope(n)?),
+        Command::Distance(n) => Order::Distance(distance(n)?),
+        Command::Forward => Order::Forward,
+        Command::Back => Order::Back,
+        Command::ZeroCounter => Order::ZeroCounter,
+        Command::SetCounter(n) => Order::SetCounter(position(n)?),
+        Command::Move => Order::Move,
+        Command::MoveToOrigin => Order::MoveToOrigin,
+        Command::MoveTo(n) => Order::MoveTo(position(n)?),
+        Command::SlowStop => Order::SlowStop,
+        Command::PowerOn => Order::PowerOn,
+        Command::PowerOff => Order::PowerOff,
+        Command::SetOutputs(n) => Order::SetOutputs(outputs(n)?),
+        Command::Create(address) => Order::Create(block_values(address)?),
+        Command::Erase(n) => Order::Erase(erase_value(n)?),
+        Command::Choose(n) => Order::Choose {
+            number: sequence_value(n)?,
+        },
+        Command::Start(n) => Order::Start {
+            number: sequence_value(n)?,
+        },
+        Command::Write(raw) => {
+            let (at, phase) = sp_values(raw)?;
+            Order::Write { at, phase }
         }
-        Command::Erase(n) => Ok(Order::Erase(erase_value(n)?)),
-        Command::Choose(n) => sequence(n).map(|number| Order::Choose { number }),
-        Command::Start(n) => sequence(n).map(|number| Order::Start { number }),
-        Command::Write(raw) => sp_values(raw).map(|(at, phase)| Order::Write { at, phase }),
-        Command::ReadPhase(address) => Ok(Order::ReadPhase(address_values(address)?)),
-        Command::Restart => Ok(Order::Restart),
-        Command::ReadParameters => Ok(Order::ReadParameters),
-        Command::ReadPosition => Ok(Order::ReadPosition),
-        Command::ReadVersion => Ok(Order::ReadVersion),
-        Command::ReadFault => Ok(Order::ReadFault),
-    }
+        Command::ReadPhase(address) => Order::ReadPhase(address_values(address)?),
+        Command::Restart => Order::Restart,
+        Command::ReadParameters => Order::ReadParameters,
+        Command::ReadPosition => Order::ReadPosition,
+        Command::ReadVersion => Order::ReadVersion,
+        Command::ReadFault => Order::ReadFault,
+    })
 }

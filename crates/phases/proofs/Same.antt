@@ -1,5 +1,6 @@
 -- Phases that `==` takes for equal are equal.
 use Rattle.std.proofs.Common.{◌≡◌, ℕ, ℤ, true, false, refl, ap, rules, Some, None, Option, Bool, ◌&&◌, nat_eq}
+use Rattle.std.proofs.lemmas.Bool.{and_parts}
 use Rattle.std.specs.Option.{option_eq}
 use Rattle.std.specs.Ordering.{int_eq}
 use Rattle.std.proofs.Math.Bool.{beq}
@@ -46,11 +47,6 @@ option_same eq h None (Some n) e = cc
 option_same eq h (Some n) None e = cc
 option_same eq h (Some n) (Some m) e = ap Some (h n m e)
 
--- both parts of a test by &&
-both : (a b : Bool) → (a && b) ≡ true → (a ≡ true) × (b ≡ true)
-both true b e = (refl, e)
-both false b e = cc
-
 -- what `==` compares, field by field
 module _ (link_eq : Link ℕ → Link ℕ → Bool) where
   tests : Phase → Phase → Bool
@@ -86,13 +82,13 @@ module _ (a b : Phase) (written : a.written ≡ b.written) (sense : a.sense ≡ 
 same_tests : (f : Link ℕ → Link ℕ → Bool) → ((x y : Link ℕ) → f x y ≡ true → x ≡ y) → (a b : Phase) → tests f a b ≡ true → a ≡ b
 unfolding tests
 same_tests f h a b e =
-    let e1 = both (beq a.written b.written) _ e in
-    let e2 = both (sense_impl.ghosts.eq a.sense b.sense) _ e1.1 in
-    let e3 = both (nature_impl.ghosts.eq a.nature b.nature) _ e2.1 in
-    let e4 = both (int_eq a.set_point b.set_point) _ e3.1 in
-    let e5 = both (option_eq f a.link b.link) _ e4.1 in
-    let e6 = both (inputs_impl.ghosts.eq a.inputs b.inputs) _ e5.1 in
-    let e7 = both (option_eq nat_eq a.next b.next) (option_eq nat_eq a.outputs b.outputs) e6.1 in
+    let e1 = and_parts (beq a.written b.written) _ e in
+    let e2 = and_parts (sense_impl.ghosts.eq a.sense b.sense) _ e1.1 in
+    let e3 = and_parts (nature_impl.ghosts.eq a.nature b.nature) _ e2.1 in
+    let e4 = and_parts (int_eq a.set_point b.set_point) _ e3.1 in
+    let e5 = and_parts (option_eq f a.link b.link) _ e4.1 in
+    let e6 = and_parts (inputs_impl.ghosts.eq a.inputs b.inputs) _ e5.1 in
+    let e7 = and_parts (option_eq nat_eq a.next b.next) (option_eq nat_eq a.outputs b.outputs) e6.1 in
     fields_are a b (written_same _ _ e1.0) (sense_same _ _ e2.0) (nature_same _ _ e3.0) (set_point_same _ _ e4.0) (option_same f h _ _ e5.0) (inputs_same _ _ e6.0) (option_same nat_eq number_same _ _ e7.0) (option_same nat_eq number_same _ _ e7.1)
 
 pub phase_same : (a b : Phase) → phase_impl.ghosts.eq a b ≡ true → a ≡ b

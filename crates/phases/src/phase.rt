@@ -54,19 +54,18 @@ pub struct Phase {
 }
 
 impl Nature {
-    // Whether the set point lies within the limits of the nature: one row for each, with its limits as the guard.
+    // Whether the set point lies within the limits of the nature.
     pub fn takes(self, set_point: i64) -> bool
         ensures { result ≡ SetPointFits self set_point }
     {
         match self {
-            Nature::Relative | Nature::ConstantSpeed if 0 <= set_point && set_point <= 999_998 =>
-                true,
-            Nature::Absolute if -8_388_606 <= set_point && set_point <= 8_388_606 => true,
-            Nature::Wait if 1 <= set_point && set_point <= 65_000 => true,
-            Nature::PlateauSpeed if 20 <= set_point && set_point <= 20_000 => true,
-            Nature::Origin | Nature::ZeroCounter | Nature::PowerOn | Nature::PowerOff
-                if set_point == 0 => true,
-            _ => false,
+            Nature::Relative | Nature::ConstantSpeed => (0..=999_998).contains(&set_point),
+            Nature::Absolute => (-8_388_606..=8_388_606).contains(&set_point),
+            Nature::Wait => (1..=65_000).contains(&set_point),
+            Nature::PlateauSpeed => (20..=20_000).contains(&set_point),
+            Nature::Origin | Nature::ZeroCounter | Nature::PowerOn | Nature::PowerOff => {
+                set_point == 0
+            }
         }
     }
 }
@@ -76,7 +75,7 @@ impl Link<u8> {
         ensures { result ≡ SequenceNumber (number_of self) }
     {
         let (Link::Sequence(number) | Link::SubSequence(number)) = self;
-        1 <= number && number <= 99
+        (1..=99).contains(&number)
     }
 }
 
@@ -84,7 +83,7 @@ impl Link<u8> {
 pub fn next_fits(next: Option<u8>) -> bool
     ensures { result ≡ NextFits next }
 {
-    next.is_none_or(|np| 1 <= np && np <= 50 || np == 54)
+    matches!(next, None | Some(1..=50 | 54))
 }
 
 impl Inputs {
@@ -131,6 +130,7 @@ impl Phase {
         self.written && self.in_limits()
     }
 
+    // `BLANK` with a contract, which a constant has not.
     pub fn blank() -> Phase
         ensures { result ≡ blank }
     {

@@ -33,7 +33,7 @@ fn print_sheet(program: &Program, address: u8, name: &str, bytes: &[u8]) -> Resu
     }
 }
 
-// Does what the arguments ask for.
+// Does what the arguments ask for. The requests are the program's own, so that the library of both cannot match them.
 fn follow(program: &Program, words: &[String]) -> Result<(), Failed> {
     match read_request(words) {
         Ok(Request::Usage) => Ok(println!(program.rt; "{USAGE}")?),

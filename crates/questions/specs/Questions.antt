@@ -1,19 +1,14 @@
 -- The texts of the answers: each ends with 0Dh 11h, and begins with the address in two figures where it tells something.
 use Rattle.std.specs.Prelude.{ℕ, cond, List, [], ◌∷◌, ◌++◌, ℤ, Some, None, codes, Option, nat_lt}
 use Rattle.senses.specs.declared.Sense.{Sense}
-use Rattle.senses.specs.declared.Sense.TheVariants.{Forward, Back}
+use Rattle.senses.specs.Senses.{sense_sign}
 use Rattle.faults.specs.declared.Fault.{Fault}
 use Rattle.faults.specs.Faults.{number_of}
-use Rattle.replies.specs.Replies.{figures_of, signed_of, hex_of}
-
--- the end of a text, 0Dh 11h
-abbrev pub ending : List ℕ
-ending = 13 ∷ 17 ∷ []
+use Rattle.replies.specs.Replies.{ending, figures_of, signed_of, hex_of}
 
 -- a direction: + forward, - back
 abbrev pub direction_sign : Sense → ℕ
-direction_sign Forward = 43
-direction_sign Back = 45
+direction_sign direction = sense_sign direction
 
 -- the two speeds and the slope in five figures each: 00500 02000 01000
 unfoldable pub speeds_words : ℕ → ℕ → ℕ → List ℕ

@@ -11,16 +11,15 @@ fn figures_in(number: u8) -> usize
     ensures count { result ≡ figures_in number }
     ensures few { result ≤ 3 }
 {
-    if number < 10 {
-        1
-    } else if number < 100 {
-        2
-    } else {
-        3
+    match number {
+        0..=9 => 1,
+        10..=99 => 2,
+        100.. => 3,
     }
 }
 
 // Writes N for no fault, else the number of its cause.
+#[tactic(auto, unfolding(crate::specs::Questions::fault_word))]
 fn write_cause(reply: &mut Reply, fault: Option<Fault>)
     requires { Room reply.old 3 }
     ensures wrote { Wrote reply.old reply.new (fault_word fault) }
@@ -41,10 +40,7 @@ pub fn answer_fault(out: &mut [u8], address: u8, fault: Option<Fault>) -> Result
     ensures answer { (result, out.new) ≡ answered (fault_text address fault) out.old }
 {
     check_room(out)?;
-    let mut reply = Reply::new(out);
-    reply.figures(u32::from(address), 2);
-    reply.text(b"EE ");
+    let mut reply = Reply::begin(out, address, b"EE ");
     write_cause(&mut reply, fault);
-    reply.text(b"\r\x11");
-    Ok(reply.len)
+    Ok(reply.finish())
 }

@@ -1,6 +1,6 @@
 // The answers to the questions for parameters, position, version and fault, and the two short answers to an order. Each says by
-// itself that it is at most 80 bytes long, since its length is a plain number for the caller, and writes its frame, the address and
-// the end, by two calls of the writer, which a closure over the reply would not shorten.
+// itself that it is at most 80 bytes long, since its length is a plain number for the caller. The buffer and
+// the address are lent for one call and handed on to `Reply::begin`: a struct of both would be taken apart there.
 #![tactic(auto)]
 
 mod acknowledgements;

@@ -1,7 +1,7 @@
 // The answer to the question for the parameters of a movement.
 ghost use Rattle.std.specs.Prelude.{◌≡◌, ◌+◌, ◌≤◌, IfOk};
 ghost use Rattle.replies.specs.Replies.{Room, Wrote, answered};
-ghost use Rattle.questions.specs.Questions.{direction_sign, speeds_words, distance_words, parameters_text};
+ghost use Rattle.questions.specs.Questions.{speeds_words, distance_words, parameters_text};
 
 use faults::Fault;
 use replies::{Reply, check_room};
@@ -18,16 +18,6 @@ pub struct Parameters {
     pub direction: Sense,
 }
 
-// The sign of a direction, a letter of this reply alone, so that no `From` would say it plainer.
-fn sign(direction: Sense) -> u8
-    ensures { result ≡ direction_sign direction }
-{
-    match direction {
-        Sense::Forward => b'+',
-        Sense::Back => b'-',
-    }
-}
-
 // Writes the two speeds and the slope in five figures each.
 fn write_speeds(reply: &mut Reply, told: Parameters)
     requires { Room reply.old 17 }
@@ -42,6 +32,7 @@ fn write_speeds(reply: &mut Reply, told: Parameters)
 }
 
 // Writes the distance in six figures, and the direction.
+#[tactic(auto, unfolding(crate::specs::Questions::distance_words))]
 fn write_distance(reply: &mut Reply, told: Parameters)
     requires { Room reply.old 8 }
     ensures wrote { Wrote reply.old reply.new (distance_words told.distance told.direction) }
@@ -49,7 +40,7 @@ fn write_distance(reply: &mut Reply, told: Parameters)
 {
     reply.figures(told.distance, 6);
     reply.text(b" ");
-    reply.put(sign(told.direction));
+    reply.put(told.direction.sign());
 }
 
 // Answers with the speeds, the slope, the distance and the direction of a movement.
@@ -58,12 +49,9 @@ pub fn answer_parameters(out: &mut [u8], address: u8, told: Parameters) -> Resul
     ensures answer { (result, out.new) ≡ answered (parameters_text address told.start_speed told.plateau_speed told.slope told.distance told.direction) out.old }
 {
     check_room(out)?;
-    let mut reply = Reply::new(out);
-    reply.figures(u32::from(address), 2);
-    reply.text(b"EL ");
+    let mut reply = Reply::begin(out, address, b"EL ");
     write_speeds(&mut reply, told);
     reply.text(b" ");
     write_distance(&mut reply, told);
-    reply.text(b"\r\x11");
-    Ok(reply.len)
+    Ok(reply.finish())
 }

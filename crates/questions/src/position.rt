@@ -18,14 +18,11 @@ pub fn answer_position(
     ensures answer { (result, out.new) ≡ answered (position_text address counter levels outputs) out.old }
 {
     check_room(out)?;
-    let mut reply = Reply::new(out);
-    reply.figures(u32::from(address), 2);
-    reply.text(b"EP ");
+    let mut reply = Reply::begin(out, address, b"EP ");
     reply.signed(counter, 7);
     reply.text(b" ");
     reply.hexadecimal2(levels);
     reply.text(b" ");
     reply.hexadecimal2(outputs);
-    reply.text(b"\r\x11");
-    Ok(reply.len)
+    Ok(reply.finish())
 }

@@ -12,10 +12,7 @@ pub fn answer_version(out: &mut [u8], address: u8, cycle: u32) -> Result<usize, 
     ensures answer { (result, out.new) ≡ answered (version_text address cycle) out.old }
 {
     check_room(out)?;
-    let mut reply = Reply::new(out);
-    reply.figures(u32::from(address), 2);
-    reply.text(b"EV 10 ");
+    let mut reply = Reply::begin(out, address, b"EV 10 ");
     reply.figures(cycle, 8);
-    reply.text(b"\r\x11");
-    Ok(reply.len)
+    Ok(reply.finish())
 }

@@ -1,21 +1,20 @@
 // The end block of a transcript: what a module is.
 use crate::fault_text::FaultText;
 use crate::scene::ROOM;
-use crate::snapshot::{Shown, Snapshot};
+use crate::snapshot::{Moment, Shown, Snapshot};
 use crate::transcript::Transcript;
 use phases::{Phase, Position};
-use senses::Sense;
 use std::alloc::AllocError;
 use store::Block;
 use texts::answer_rs;
 
 impl Transcript {
-    // The end block of a module over its memory, which is lent beside the snapshot.
-    pub(crate) fn state(&mut self, now: &Snapshot, memory: &[Phase]) -> Result<(), AllocError> {
-        self.end(now)?;
-        self.parameters(now)?;
-        self.sequences(now, memory)?;
-        self.shown(now.shown)
+    // The end block of a module.
+    pub(crate) fn state(&mut self, moment: &Moment) -> Result<(), AllocError> {
+        self.end(&moment.now)?;
+        self.parameters(&moment.now)?;
+        self.sequences(moment)?;
+        self.shown(moment.now.shown)
     }
 
     fn end(&mut self, now: &Snapshot) -> Result<(), AllocError> {
@@ -39,11 +38,7 @@ impl Transcript {
         let plateau = settings.parameters.plateau_speed();
         let slope = settings.parameters.slope();
         let distance = settings.distance;
-        // One letter of this line alone.
-        let direction = match settings.direction {
-            Sense::Forward => "+",
-            Sense::Back => "-",
-        };
+        let direction = char::from(settings.direction.sign());
         let line = format!(in self.heap;
             "parameters: address {address:02} VN {start} VX {plateau} TR {slope} DR {distance} direction {direction} start "
         )?;
@@ -63,26 +58,27 @@ impl Transcript {
     }
 
     // The sequences in order of creation.
-    fn sequences(&mut self, now: &Snapshot, memory: &[Phase]) -> Result<(), AllocError> {
-        for block in now.control.directory.blocks() {
+    fn sequences(&mut self, moment: &Moment) -> Result<(), AllocError> {
+        for block in moment.now.control.directory.blocks() {
             let Block { number, reserve } = *block;
             let line = format!(in self.heap; "sequence {number} reserve {reserve}\n")?;
             self.add(line.as_bytes())?;
-            self.phases(now, memory, *block)?;
+            self.phases(moment, *block)?;
         }
         Ok(())
     }
 
     // The written records of a sequence.
-    fn phases(&mut self, now: &Snapshot, memory: &[Phase], block: Block) -> Result<(), AllocError> {
+    fn phases(&mut self, moment: &Moment, block: Block) -> Result<(), AllocError> {
+        let control = &moment.now.control;
         // The number of a phase is what is read, and no index.
         for phase in 1..=block.reserve {
             let at = Position {
                 sequence: block.number,
                 phase,
             };
-            if let Ok(Some(record)) = now.control.directory.read(memory, at) {
-                self.phase(now.control.address, at, &record)?;
+            if let Ok(Some(record)) = control.directory.read(moment.memory.as_slice(), at) {
+                self.phase(control.address, at, &record)?;
             }
         }
         Ok(())

@@ -12,6 +12,7 @@ impl fmt::Display for FaultText {
         };
         let number = fault.cause.number();
         let place = fault.place;
+        // A transcript writes 0 where a fault has no word: words are counted from 1.
         let word = fault.word.unwrap_or(0);
         write!(f, "{number} {place} {word}")
     }

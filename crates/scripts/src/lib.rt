@@ -11,6 +11,7 @@ mod scene;
 mod script;
 mod snapshot;
 mod step;
+mod stop;
 mod telling;
 mod transcript;
 mod trouble;

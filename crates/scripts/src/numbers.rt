@@ -1,16 +1,6 @@
 // Numbers as a script writes them.
 ghost use Rattle.std.specs.Prelude.{◌≡◌};
-ghost use Rattle.scripts.specs.Numbers.{figure_of, decimal_of, hex_figure_of, hexadecimal_of};
-
-// What a decimal figure counts, of a byte: `to_digit` goes by characters, and would need a cast back and forth.
-fn figure(c: u8) -> Option<u8>
-    ensures { result ≡ figure_of c }
-{
-    match c {
-        b'0'..=b'9' => Some(c - b'0'),
-        _ => None,
-    }
-}
+ghost use Rattle.scripts.specs.Numbers.{decimal_of, hex_figure_of, hexadecimal_of};
 
 // The number that decimal figures write; any above the greatest that fits is that one.
 pub fn read_decimal(text: &[u8]) -> Option<u64>
@@ -21,13 +11,14 @@ pub fn read_decimal(text: &[u8]) -> Option<u64>
     }
     let mut value: u64 = 0;
     for c in text {
-        let n = figure(*c)?;
+        let n = char::from(*c).to_digit(10)?;
         value = value.saturating_mul(10).saturating_add(u64::from(n));
     }
     Some(value)
 }
 
-// What a hexadecimal figure counts, capital or small, of a byte as well.
+// What a hexadecimal figure counts, capital or small. `to_digit` answers a u32: with `try_from` behind it the
+// proof did not close.
 fn hex_figure(c: u8) -> Option<u8>
     ensures { result ≡ hex_figure_of c }
 {

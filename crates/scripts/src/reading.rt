@@ -4,10 +4,9 @@ ghost use Rattle.scripts.specs.PassedOver.{blank, comment};
 
 use crate::expected::{Expected, MOST_CALLS};
 use crate::numbers::{read_decimal, read_hexadecimal};
-use crate::scene::{RECORDS, ROOM};
+use crate::scene::{RECORDS, ROOM, with_records};
 use crate::step::{Output, Step};
-use history::Call;
-use lines::Character;
+use history::{Action, Call, Character};
 use words::cut;
 
 // Nothing but blanks.
@@ -23,8 +22,8 @@ fn is_comment(line: &[u8]) -> bool
     line.first() == Some(&b'#')
 }
 
-// A character call with this room, from HH or HH damaged.
-fn read_character(text: &[u8], room: usize, lent: usize) -> Option<Call> {
+// A character with this room, from HH or HH damaged.
+fn read_character(text: &[u8], room: usize) -> Option<Action> {
     let (figures, more) = cut(text);
     let byte = read_hexadecimal(figures)?;
     let damaged = match more {
@@ -32,24 +31,22 @@ fn read_character(text: &[u8], room: usize, lent: usize) -> Option<Call> {
         Some(b"damaged") => true,
         Some(_) => return None,
     };
-    Some(Call::Character {
+    Some(Action::Character {
         character: Character { byte, damaged },
         room,
-        lent,
     })
 }
 
-fn read_levels(text: &[u8], lent: usize) -> Option<Call> {
-    let value = read_hexadecimal(text)?;
-    Some(Call::Levels { value, lent })
+fn read_levels(text: &[u8]) -> Option<Action> {
+    Some(Action::Levels(read_hexadecimal(text)?))
 }
 
-// A number of bytes or records; what passes 1000 counts as that, so that the cast loses nothing.
+// A number of bytes or records; what is too great for one counts as the greatest.
 fn read_size(text: &[u8]) -> Option<usize> {
-    Some(read_decimal(text)?.min(1000) as usize)
+    Some(usize::try_from(read_decimal(text)?).unwrap_or(usize::MAX))
 }
 
-// The output and the address of a module; an address above 255 counts as that, so that the cast loses nothing.
+// The output and the address of a module; an address above 255 counts as that, and is refused as any above 63.
 fn read_module(text: &[u8]) -> Option<Step<'_>> {
     let (name, address) = cut(text);
     let output = match name {
@@ -58,7 +55,7 @@ fn read_module(text: &[u8]) -> Option<Step<'_>> {
         b"pulse" => Output::Pulse,
         _ => return None,
     };
-    let address = read_decimal(address?)?.min(255) as u8;
+    let address = u8::try_from(read_decimal(address?)?).unwrap_or(u8::MAX);
     Some(Step::Module { output, address })
 }
 
@@ -70,9 +67,9 @@ fn read_ticks(text: &[u8]) -> Option<Step<'_>> {
     Some(Step::Ticks(count))
 }
 
-fn read_room(text: &[u8]) -> Option<Call> {
+fn read_room(text: &[u8]) -> Option<Action> {
     let (size, text) = cut(text);
-    read_character(text?, read_size(size)?, RECORDS)
+    read_character(text?, read_size(size)?)
 }
 
 // What a call is lent; more records than the memory has are refused as none are.
@@ -83,31 +80,29 @@ fn lent_of(size: usize) -> usize {
 fn read_lent(text: &[u8]) -> Option<Call> {
     let (size, text) = cut(text);
     let lent = lent_of(read_size(size)?);
-    match cut(text?) {
-        (b"tick", None) => Some(Call::Tick { lent }),
-        (b"power-up", None) => Some(Call::PowerUp { lent }),
-        (b"levels", Some(text)) => read_levels(text, lent),
-        (b"byte", Some(text)) => read_character(text, ROOM, lent),
-        _ => None,
-    }
+    let action = match cut(text?) {
+        (b"tick", None) => Action::Tick,
+        (b"power-up", None) => Action::PowerUp,
+        (b"levels", Some(text)) => read_levels(text)?,
+        (b"byte", Some(text)) => read_character(text, ROOM)?,
+        _ => return None,
+    };
+    Some(Call { lent, action })
 }
 
 // A line that makes one call, or what its first word wants behind it.
 fn read_call(name: &[u8], text: Option<&[u8]>) -> Result<Call, Expected> {
-    let (call, wanted) = match name {
+    let (action, wanted) = match name {
+        b"lent" => return text.and_then(read_lent).ok_or(Expected::Lent),
         b"byte" => (
-            text.and_then(|text| read_character(text, ROOM, RECORDS)),
+            text.and_then(|text| read_character(text, ROOM)),
             Expected::Byte,
         ),
-        b"levels" => (
-            text.and_then(|text| read_levels(text, RECORDS)),
-            Expected::Levels,
-        ),
+        b"levels" => (text.and_then(read_levels), Expected::Levels),
         b"room" => (text.and_then(read_room), Expected::Room),
-        b"lent" => (text.and_then(read_lent), Expected::Lent),
         _ => (None, Expected::Order),
     };
-    call.ok_or(wanted)
+    Ok(with_records(action.ok_or(wanted)?))
 }
 
 // A line of one word alone.
@@ -126,7 +121,7 @@ fn read_words(line: &[u8]) -> Result<Step<'_>, Expected> {
         b"type" => Ok(Step::Type(text.unwrap_or(&[]))),
         b"module" => text.and_then(read_module).ok_or(Expected::Module),
         b"tick" => text.and_then(read_ticks).ok_or(Expected::Ticks),
-        b"power-up" => read_alone(Step::Once(Call::PowerUp { lent: RECORDS }), text),
+        b"power-up" => read_alone(Step::Once(with_records(Action::PowerUp)), text),
         b"fault" => read_alone(Step::Fault, text),
         b"state" => read_alone(Step::State, text),
         _ => Ok(Step::Once(read_call(name, text)?)),

@@ -1,11 +1,11 @@
 // A module of a script: its calls, and the lines that they come from.
-use crate::expected::MOST_CALLS;
+use crate::expected::{Expected, MOST_CALLS};
 use crate::playing::play;
 use crate::snapshot::Snapshot;
 use crate::step::Output;
+use crate::stop::Stop;
 use faults::Fault;
-use history::{Answer, Call};
-use lines::Character;
+use history::{Action, Answer, Call, Character};
 use phases::Phase;
 use std::alloc::{AllocError, Global};
 
@@ -15,9 +15,18 @@ pub(crate) const RECORDS: usize = 414;
 // The bytes of a reply buffer.
 pub(crate) const ROOM: usize = 80;
 
-const LINE_END: u8 = 0x0D;
+const LINE_END: &[u8] = b"\r";
+
+// A call that is lent the whole memory.
+pub(crate) fn with_records(action: Action) -> Call {
+    Call {
+        lent: RECORDS,
+        action,
+    }
+}
 
 // What is told under a line: the answers of its calls, its ticks, or what the module is then.
+// An enum, matched once: a list of closures would need boxes made here, which the check refuses to hand out.
 #[derive(Clone, Copy)]
 pub(crate) enum Told {
     Answers,
@@ -55,9 +64,12 @@ impl<'a> Scene<'a> {
         }
     }
 
-    // Whether the module takes so many calls more.
-    pub(crate) fn has_room(&self, count: usize) -> bool {
-        count <= MOST_CALLS.saturating_sub(self.calls.len())
+    // Refuses calls beyond the most that a module takes.
+    fn check_room(&self, count: usize) -> Result<(), Expected> {
+        if count > MOST_CALLS.saturating_sub(self.calls.len()) {
+            return Err(Expected::FewerCalls);
+        }
+        Ok(())
     }
 
     // Ends a line of the script.
@@ -71,38 +83,50 @@ impl<'a> Scene<'a> {
         Ok(())
     }
 
-    fn character(&mut self, byte: u8) -> Result<(), AllocError> {
-        self.calls.push(Call::Character {
-            character: Character {
-                byte,
-                damaged: false,
-            },
-            room: ROOM,
-            lent: RECORDS,
-        })?;
-        Ok(())
-    }
-
-    pub(crate) fn type_text(&mut self, text: &[u8]) -> Result<(), AllocError> {
-        for byte in text {
-            self.character(*byte)?;
-        }
-        Ok(())
-    }
-
-    pub(crate) fn send(&mut self, text: &[u8]) -> Result<(), AllocError> {
-        self.type_text(text)?;
-        self.character(LINE_END)
-    }
-
-    pub(crate) fn once(&mut self, call: Call) -> Result<(), AllocError> {
+    fn call(&mut self, call: Call) -> Result<(), AllocError> {
         self.calls.push(call)?;
         Ok(())
     }
 
-    pub(crate) fn tick(&mut self, count: usize) -> Result<(), AllocError> {
+    fn characters(&mut self, text: &[u8]) -> Result<(), AllocError> {
+        for byte in text {
+            self.call(with_records(Action::Character {
+                character: Character {
+                    byte: *byte,
+                    damaged: false,
+                },
+                room: ROOM,
+            }))?;
+        }
+        Ok(())
+    }
+
+    // This and the next three test the room, add their calls and note the line: a closure for the calls in between would make none of
+    // them shorter.
+    pub(crate) fn type_text(&mut self, line: &'a [u8], text: &[u8]) -> Result<(), Stop> {
+        self.check_room(text.len())?;
+        self.characters(text)?;
+        Ok(self.note(line, Told::Answers)?)
+    }
+
+    pub(crate) fn send(&mut self, line: &'a [u8], text: &[u8]) -> Result<(), Stop> {
+        self.check_room(text.len().saturating_add(1))?;
+        self.characters(text)?;
+        self.characters(LINE_END)?;
+        Ok(self.note(line, Told::Answers)?)
+    }
+
+    pub(crate) fn once(&mut self, line: &'a [u8], call: Call) -> Result<(), Stop> {
+        self.check_room(1)?;
+        self.call(call)?;
+        Ok(self.note(line, Told::Answers)?)
+    }
+
+    pub(crate) fn tick(&mut self, line: &'a [u8], count: usize) -> Result<(), Stop> {
+        self.check_room(count)?;
         let reached = self.calls.len().saturating_add(count);
-        self.calls.resize(reached, Call::Tick { lent: RECORDS })
+        self.calls.resize(reached, with_records(Action::Tick))?;
+        Ok(self.note(line, Told::Ticks)?)
     }
 
     // Plays the first `count` calls on a new module over this memory.

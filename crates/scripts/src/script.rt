@@ -3,67 +3,18 @@ use crate::expected::Expected;
 use crate::reading::read_line;
 use crate::scene::{Scene, Told};
 use crate::step::{Output, Step};
+use crate::stop::Stop;
 use crate::telling::tell_scene;
 use crate::transcript::Transcript;
 use crate::trouble::Trouble;
-use faults::Fault;
+use lines::check_address;
 use std::alloc::{AllocError, Global};
-
-const LAST_ADDRESS: u8 = 63;
 
 // The module that is being gathered, if one is.
 #[derive(Drop)]
 struct Script<'a> {
     heap: Global,
     scene: Option<Scene<'a>>,
-}
-
-// Why a line is not taken.
-#[derive(Clone, Copy)]
-enum Stop {
-    Expected(Expected),
-    NoMemory,
-}
-
-impl From<Expected> for Stop {
-    fn from(expected: Expected) -> Stop {
-        Stop::Expected(expected)
-    }
-}
-
-impl From<AllocError> for Stop {
-    fn from(_: AllocError) -> Stop {
-        Stop::NoMemory
-    }
-}
-
-// How many calls a step makes.
-fn calls_of(step: &Step<'_>) -> usize {
-    match step {
-        Step::Send(text) => text.len().saturating_add(1),
-        Step::Type(text) => text.len(),
-        Step::Once(_) => 1,
-        Step::Ticks(count) => *count,
-        _ => 0,
-    }
-}
-
-// Adds the calls of a step to a module's.
-fn gather<'a>(scene: &mut Scene<'a>, line: &'a [u8], step: Step<'a>) -> Result<(), AllocError> {
-    match step {
-        Step::Send(text) => scene.send(text)?,
-        Step::Type(text) => scene.type_text(text)?,
-        Step::Once(call) => scene.once(call)?,
-        Step::Ticks(count) => scene.tick(count)?,
-        _ => {}
-    }
-    let told = match step {
-        Step::Ticks(_) => Told::Ticks,
-        Step::Fault => Told::Fault,
-        Step::State => Told::State,
-        _ => Told::Answers,
-    };
-    scene.note(line, told)
 }
 
 impl<'a> Script<'a> {
@@ -86,34 +37,33 @@ impl<'a> Script<'a> {
         self.tell(true, transcript)?;
         self.scene = None;
         transcript.echo(line)?;
-        if address > LAST_ADDRESS {
-            return transcript.refused(Fault::wrong_address());
+        if let Err(fault) = check_address(address) {
+            return transcript.refused(fault);
         }
         self.scene = Some(Scene::new(self.heap, output, address));
         Ok(())
     }
 
-    // Takes a line that moves the module.
-    fn gather(&mut self, line: &'a [u8], step: Step<'a>) -> Result<(), Stop> {
-        let Some(scene) = &mut self.scene else {
-            return Err(Stop::Expected(Expected::FirstModule));
-        };
-        if !scene.has_room(calls_of(&step)) {
-            return Err(Stop::Expected(Expected::FewerCalls));
-        }
-        gather(scene, line, step)?;
-        Ok(())
+    // The module that a line goes on with.
+    fn gathered(&mut self) -> Result<&mut Scene<'a>, Expected> {
+        self.scene.as_mut().ok_or(Expected::FirstModule)
     }
 
     // Takes a line.
     fn take(&mut self, line: &'a [u8], transcript: &mut Transcript) -> Result<(), Stop> {
-        match read_line(line)? {
-            None => Ok(()),
-            Some(Step::Module { output, address }) => {
-                self.begin(line, output, address, transcript)?;
-                Ok(())
+        let Some(step) = read_line(line)? else {
+            return Ok(());
+        };
+        match step {
+            Step::Module { output, address } => {
+                Ok(self.begin(line, output, address, transcript)?)
             }
-            Some(step) => self.gather(line, step),
+            Step::Send(text) => self.gathered()?.send(line, text),
+            Step::Type(text) => self.gathered()?.type_text(line, text),
+            Step::Once(call) => self.gathered()?.once(line, call),
+            Step::Ticks(count) => self.gathered()?.tick(line, count),
+            Step::Fault => Ok(self.gathered()?.note(line, Told::Fault)?),
+            Step::State => Ok(self.gathered()?.note(line, Told::State)?),
         }
     }
 }

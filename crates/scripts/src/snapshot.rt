@@ -3,6 +3,7 @@ use control::Control;
 use faults::Fault;
 use module::Module;
 use outputs::{Drive, LineOutput, MotorCoils, PulseOutput, StepOutput};
+use phases::Phase;
 
 // What an output shows: the pattern of its lines, or its pulses forward and back.
 #[derive(Clone, Copy)]
@@ -49,4 +50,11 @@ impl<O: ShownOutput> From<&Module<O>> for Snapshot {
             shown: axis.output().show(),
         }
     }
+}
+
+// What a module is after some of its calls, and its memory then.
+#[derive(Drop)]
+pub(crate) struct Moment {
+    pub now: Snapshot,
+    pub memory: Vec<Phase>,
 }

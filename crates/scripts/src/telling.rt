@@ -1,6 +1,6 @@
 // The transcript of a module's calls, under the lines that they come from.
 use crate::scene::{Entry, RECORDS, Scene, Told};
-use crate::snapshot::Snapshot;
+use crate::snapshot::Moment;
 use crate::transcript::Transcript;
 use faults::Fault;
 use history::Answer;
@@ -16,34 +16,6 @@ struct Telling<'a, 'b> {
     busy: Option<bool>,
 }
 
-// What a module is after some of its calls, and its memory then.
-#[derive(Drop)]
-struct Moment {
-    now: Option<Snapshot>,
-    memory: Vec<Phase>,
-}
-
-// Where there is no module, nothing is told.
-impl Moment {
-    fn tell_state(&self, transcript: &mut Transcript) -> Result<(), AllocError> {
-        match &self.now {
-            Some(now) => transcript.state(now, self.memory.as_slice()),
-            None => Ok(()),
-        }
-    }
-
-    fn tell_fault(&self, transcript: &mut Transcript) -> Result<(), AllocError> {
-        match &self.now {
-            Some(now) => transcript.fault(now.fault),
-            None => Ok(()),
-        }
-    }
-
-    fn busy(&self) -> bool {
-        self.now.is_some_and(|now| now.control.busy())
-    }
-}
-
 impl<'a, 'b> Telling<'a, 'b> {
     fn new(scene: &'a Scene<'b>) -> Result<Telling<'a, 'b>, AllocError> {
         let answers = vec![in scene.heap; Ok(Answer::Done); scene.calls.len()]?;
@@ -55,13 +27,13 @@ impl<'a, 'b> Telling<'a, 'b> {
         })
     }
 
-    // Plays the first `count` calls from new.
-    fn play(&mut self, count: usize) -> Result<Moment, AllocError> {
+    // Plays the first `count` calls from new; none where the history is refused.
+    fn play(&mut self, count: usize) -> Result<Option<Moment>, AllocError> {
         let mut memory = vec![in self.scene.heap; Phase::BLANK; RECORDS]?;
         let now = self
             .scene
             .play(count, memory.as_mut_slice(), self.answers.as_mut_slice());
-        Ok(Moment { now, memory })
+        Ok(now.map(|now| Moment { now, memory }))
     }
 
     // The answers of a line's calls.
@@ -104,7 +76,10 @@ impl<'a, 'b> Telling<'a, 'b> {
                 return Ok(true);
             }
         }
-        Ok(self.play(self.told)?.busy())
+        Ok(
+            self.play(self.told)?
+                .is_some_and(|moment| moment.now.control.busy()),
+        )
     }
 
     // Tells a line of ticks.
@@ -133,11 +108,23 @@ impl<'a, 'b> Telling<'a, 'b> {
         match entry.told {
             Told::Answers => self.tell_answers(entry.reached, transcript)?,
             Told::Ticks => self.tell_ticks(entry.reached, transcript)?,
-            Told::Fault => self.play(entry.reached)?.tell_fault(transcript)?,
-            Told::State => self.play(entry.reached)?.tell_state(transcript)?,
+            Told::Fault => {
+                if let Some(moment) = self.play(entry.reached)? {
+                    transcript.fault(moment.now.fault)?;
+                }
+            }
+            Told::State => tell_state(&self.play(entry.reached)?, transcript)?,
         }
         self.told = entry.reached;
         Ok(())
+    }
+}
+
+// Tells what a module is; nothing where there is none.
+fn tell_state(moment: &Option<Moment>, transcript: &mut Transcript) -> Result<(), AllocError> {
+    match moment {
+        Some(moment) => transcript.state(moment),
+        None => Ok(()),
     }
 }
 
@@ -153,7 +140,7 @@ pub(crate) fn tell_scene(
         telling.tell(entry, transcript)?;
     }
     if ended {
-        end.tell_state(transcript)?;
+        tell_state(&end, transcript)?;
     }
     Ok(())
 }

@@ -84,6 +84,7 @@ impl Transcript {
     // A tick with a step or a change of busy.
     pub(crate) fn tick(&mut self, number: usize, step: i8, busy: bool) -> Result<(), AllocError> {
         let busy = u8::from(busy);
+        // No step has no sign, where `{step:+}` would write +0.
         let sign = if step > 0 { "+" } else { "" };
         let line = format!(in self.heap; "t {number} step {sign}{step} busy {busy}\n")?;
         self.add(line.as_bytes())

@@ -2,6 +2,7 @@
 ghost use Rattle.std.specs.Prelude.{◌≡◌};
 ghost use Rattle.sheet.specs.Addresses.{address_of};
 
+use lines::check_address;
 use words::decimal_value;
 
 // The address that two figures write, 00 to 63.
@@ -12,5 +13,6 @@ pub fn read_address(text: &[u8]) -> Option<u8>
         return None;
     }
     let address = u8::try_from(decimal_value(text)?).ok()?;
-    (address <= 63).then_some(address)
+    check_address(address).ok()?;
+    Some(address)
 }

@@ -9,7 +9,7 @@ use loader::{Done, Order, Outcome};
 use phases::{Phase, Position};
 use std::fmt;
 
-// What became of a line, to be printed: each end has words of its own.
+// What became of a line. A Result would need a second enum for what is accepted, and an Option around both for a stranger's line.
 #[derive(Clone, Copy)]
 pub enum Fate {
     Accepted,
@@ -66,27 +66,34 @@ struct Reason(Fault);
 impl fmt::Display for Reason {
     fn fmt<W: fmt::Write>(&self, f: &mut fmt::Formatter<W>) -> fmt::Result {
         let fault = self.0;
-        let word = fault.word.unwrap_or(0);
-        match fault.cause {
-            Cause::WrongForm if word == 1 => write!(f, "a question cannot be a broadcast"),
-            Cause::WrongForm => write!(f, "word {word} is missing, surplus or of wrong form"),
-            Cause::PastLimit => write!(f, "the value of word {word} is past its limit"),
-            Cause::NoSuchPhase if fault.place == Place::Store => write!(
+        match (fault.cause, fault.word) {
+            (Cause::WrongForm, Some(1)) => write!(f, "a question cannot be a broadcast"),
+            (Cause::WrongForm, Some(word)) => {
+                write!(f, "word {word} is missing, surplus or of wrong form")
+            }
+            (Cause::PastLimit, Some(word)) => {
+                write!(f, "the value of word {word} is past its limit")
+            }
+            (Cause::NoSuchPhase, Some(word)) if fault.place == Place::Store => write!(
                 f,
                 "the phase of word {word} is above the sequence's reserve"
             ),
-            Cause::NoSuchPhase => write!(f, "word {word} numbers no phase of any sequence"),
-            Cause::NoSequence => write!(f, "there is no sequence of the number in word {word}"),
-            Cause::SequenceExists => write!(
+            (Cause::NoSuchPhase, Some(word)) => {
+                write!(f, "word {word} numbers no phase of any sequence")
+            }
+            (Cause::NoSequence, Some(word)) => {
+                write!(f, "there is no sequence of the number in word {word}")
+            }
+            (Cause::SequenceExists, Some(word)) => write!(
                 f,
                 "there is a sequence of the number in word {word} already"
             ),
-            Cause::MemoryFull => write!(
+            (Cause::MemoryFull, Some(word)) => write!(
                 f,
                 "the phase memory has no room for the phases of word {word}"
             ),
-            Cause::UnknownCommand => write!(f, "the first word names no command"),
-            Cause::BadLine => write!(f, "the line has more than 64 characters"),
+            (Cause::UnknownCommand, _) => write!(f, "the first word names no command"),
+            (Cause::BadLine, _) => write!(f, "the line has more than 64 characters"),
             _ => write!(f, "the module cannot do this now"),
         }
     }

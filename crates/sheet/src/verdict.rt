@@ -8,7 +8,7 @@ use phases::{Phase, Position};
 use std::fmt;
 
 // Whether the store reads back what the line means.
-// Three named verdicts read plainer than an Option of a Result of two phases.
+// An Option of a Result would hold a phase on both sides, which only a name tells apart.
 #[derive(Clone, Copy)]
 pub enum Verdict {
     Stored(Phase),

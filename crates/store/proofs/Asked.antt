@@ -12,11 +12,11 @@ use Rattle.store.specs.Blocks.{reserved, placed, absent, sound}
 use Rattle.store.specs.Records.{ReserveFits, create_answer, erased_blocks, erased_records, closed}
 use Rattle.store.proofs.Sound.{found, gone, Gone}
 
-pub is_number : (n : ℕ) → (n ≡ 0 → ⊥) → n ≤ 99 → SequenceNumber n ≡ true
-is_number n z l = and_from _ _ (le-leb 1 n (omega arith)) (le-leb n 99 l)
+pub is_number : (n : ℕ) → 1 ≤ n → n ≤ 99 → SequenceNumber n ≡ true
+is_number n z l = and_from _ _ (le-leb 1 n z) (le-leb n 99 l)
 
-pub is_reserve : (n : ℕ) → (n ≡ 0 → ⊥) → n ≤ 50 → ReserveFits n ≡ true
-is_reserve n z l = and_from _ _ (le-leb 1 n (omega arith)) (le-leb n 50 l)
+pub is_reserve : (n : ℕ) → 1 ≤ n → n ≤ 50 → ReserveFits n ≡ true
+is_reserve n z l = and_from _ _ (le-leb 1 n z) (le-leb n 50 l)
 
 module _ (bs : List Block) (n : ℕ) (r : Option Span) (e : r ≡ placed 0 0 bs n) where
   present : is_some r ≡ true → absent n bs ≡ false
@@ -25,7 +25,7 @@ module _ (bs : List Block) (n : ℕ) (r : Option Span) (e : r ≡ placed 0 0 bs 
   pub missing : is_some r ≡ false → absent n bs ≡ true
   missing h = not-false _ (sym (found 0 0 bs n) ∙ ap is_some (sym e) ∙ h)
 
-  module _ (k : ℕ) (z : n ≡ 0 → ⊥) (l : n ≤ 99) (y : k ≡ 0 → ⊥) (j : k ≤ 50) where
+  module _ (k : ℕ) (z : 1 ≤ n) (l : n ≤ 99) (y : 1 ≤ k) (j : k ≤ 50) where
     pub answers_exists : is_some r ≡ true → Err sequence_exists ≡ create_answer bs n k
     answers_exists h = rw (is_number n z l, is_reserve k y j, present h)
 
@@ -37,17 +37,17 @@ module _ (bs : List Block) (n : ℕ) (r : Option Span) (e : r ≡ placed 0 0 bs 
 
 -- what is refused as too much, of what a caller of the directory has found
 pub refused_full : (bs : List Block) (n k : ℕ) (r : Option Span) (there : Bool) (f : Fault) → r ≡ placed 0 0 bs n → there ≡ is_some r → there ≡ false → f ≡ memory_full
-    → (n ≡ 0 → ⊥) → n ≤ 99 → (k ≡ 0 → ⊥) → k ≤ 50 → 414 < reserved bs + k → ◌≡◌ {A = Result (Unit {0}) Fault} (Err f) (create_answer bs n k)
+    → 1 ≤ n → n ≤ 99 → 1 ≤ k → k ≤ 50 → 414 < reserved bs + k → ◌≡◌ {A = Result (Unit {0}) Fault} (Err f) (create_answer bs n k)
 refused_full bs n k r there f e s absence g z l y j h = ap Err g ∙ answers_full bs n r e k z l y j (sym s ∙ absence) h
 
 -- a sequence that exists
 pub refused_exists : (bs : List Block) (n k : ℕ) (r : Option Span) (there : Bool) (f : Fault) → r ≡ placed 0 0 bs n → there ≡ is_some r → there ≡ true → f ≡ sequence_exists
-    → (n ≡ 0 → ⊥) → n ≤ 99 → (k ≡ 0 → ⊥) → k ≤ 50 → ◌≡◌ {A = Result (Unit {0}) Fault} (Err f) (create_answer bs n k)
+    → 1 ≤ n → n ≤ 99 → 1 ≤ k → k ≤ 50 → ◌≡◌ {A = Result (Unit {0}) Fault} (Err f) (create_answer bs n k)
 refused_exists bs n k r there f e s exists g z l y j = ap Err g ∙ answers_exists bs n r e k z l y j (sym s ∙ exists)
 
 -- a sequence for which there is room
 pub admitted : (bs : List Block) (n k : ℕ) (r : Option Span) (there : Bool) → r ≡ placed 0 0 bs n → there ≡ is_some r → there ≡ false
-    → (n ≡ 0 → ⊥) → n ≤ 99 → (k ≡ 0 → ⊥) → k ≤ 50 → reserved bs + k ≤ 414 → ◌≡◌ {A = Result (Unit {0}) Fault} (Ok tt) (create_answer bs n k)
+    → 1 ≤ n → n ≤ 99 → 1 ≤ k → k ≤ 50 → reserved bs + k ≤ 414 → ◌≡◌ {A = Result (Unit {0}) Fault} (Ok tt) (create_answer bs n k)
 admitted bs n k r there e s absence z l y j h = answers_ok bs n r e k z l y j (sym s ∙ absence) h
 
 module _ (bs : List Block) (n : ℕ) (s : sound bs ≡ true) where

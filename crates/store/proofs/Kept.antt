@@ -1,5 +1,6 @@
 -- The law over whole runs, and what RS tells.
 use Rattle.std.proofs.Common.{◌≡◌, ℕ, zero, suc, ◌+◌, ◌-◌, ◌<◌, ◌≤◌, true, false, cond, not, ◌&&◌, eqb, leb, List, [], ◌∷◌, ◌++◌, length, get_or, take, drop, set, replicate, is_ok, Some, None, Ok, Err, Option, Result, sym, refl, ap, ◌∙◌, subst, inl, inr, arith, get_or-set_same}
+use Rattle.std.proofs.Math.Seq.{take-set-lt}
 use Rattle.std.proofs.lemmas.List.{length-append, length-take, length-drop, length-set, length-replicate, drop-drop, get_or-take, get_or-drop, take_at, drop-set-add}
 use Rattle.std.proofs.lemmas.Bool.{cond_both, and_parts, leb-true, cases_Bool, false≢true, not-true, eq-eqb}
 use Rattle.store.specs.declared.directory.Block.{Block}
@@ -119,12 +120,6 @@ absent_without n (b ∷ bs) =
       | inr e ↦ rw (e, e) (absent_without n bs)
     ]
 
-take_set_in : {X : Type 0} (k : ℕ) (xs : List X) (j : ℕ) (x : X) → take k (set xs j x) ≡ set (take k xs) j x
-take_set_in zero xs j x = refl
-take_set_in (suc k) [] j x = refl
-take_set_in (suc k) (y ∷ xs) zero x = refl
-take_set_in (suc k) (y ∷ xs) (suc j) x = ap (λ l. y ∷ l) (take_set_in k xs j x)
-
 sn_changes : (n many : ℕ) (s : Store) → Fit s → is_ok (create_answer s.blocks n many) ≡ true → phases (step (SN n many) s).blocks (step (SN n many) s).records n ≡ Some (replicate many blank)
 sn_changes n many s f e =
     let c = created s.blocks n many e in
@@ -143,7 +138,11 @@ sp_part bs m np p l None w = refl
 sp_part bs m np p l (Some s) w =
     let k : length (take s.reserve (drop s.offset m)) ≡ s.reserve = simp (length-take, length-drop) (omega arith) in
     rw k (elim (cases_Bool (leb 1 np && leb np s.reserve)) [
-      | inl e ↦ rw e (ap Some (ap (take s.reserve) (drop-set-add s.offset m (np - 1) p) ∙ take_set_in s.reserve (drop s.offset m) (np - 1) p))
+      | inl e ↦
+          let q = and_parts (leb 1 np) (leb np s.reserve) e in
+          let low : 1 ≤ np = leb-true _ _ q.0 in
+          let high : np ≤ s.reserve = leb-true _ _ q.1 in
+          rw e (ap Some (ap (take s.reserve) (drop-set-add s.offset m (np - 1) p) ∙ take-set-lt s.reserve (drop s.offset m) (np - 1) p (omega arith)))
       | inr e ↦ rw e
     ])
 

@@ -2,6 +2,7 @@
 use Rattle.std.proofs.Common.{◌≡◌, ℕ, zero, suc, ◌+◌, ◌-◌, ◌<◌, ◌≤◌, true, false, cond, not, ◌&&◌, eqb, leb, List, [], ◌∷◌, ◌++◌, length, is_some, Some, None, Option, sym, refl, ap, ◌∙◌, subst, inl, inr, arith}
 use Rattle.std.specs.List.{remove}
 use Rattle.std.proofs.lemmas.Bool.{cond_both, and_parts, and_from, not-true, eq-eqb, ne_eqb, eqb-true, eqb-false, leb-true, cases_eq, not_from_false}
+use Rattle.std.proofs.lemmas.List.Folds.{list_all-append}
 use Rattle.store.specs.declared.directory.Block.{Block}
 use Rattle.store.specs.declared.directory.Span.{Span}
 use Rattle.phases.specs.Phases.{SequenceNumber}
@@ -71,10 +72,6 @@ few bs s = omega (arith, all_numbers bs s)
 
 -- ---- one sequence more, one sequence less
 
-pub absent_append : (n : ℕ) (bs cs : List Block) → absent n (bs ++ cs) ≡ (absent n bs && absent n cs)
-absent_append n [] cs = refl
-absent_append n (b ∷ bs) cs = elim (eqb b.number n) as (λ t. (not t && absent n (bs ++ cs)) ≡ ((not t && absent n bs) && absent n cs)) [ true ↦ refl | false ↦ absent_append n bs cs ]
-
 pub sound_push : (bs : List Block) (b : Block) → sound bs ≡ true → SequenceNumber b.number ≡ true → absent b.number bs ≡ true → sound (bs ++ (b ∷ [])) ≡ true
 sound_push [] b s n a = and_from _ _ n refl
 sound_push (c ∷ bs) b s n a =
@@ -82,7 +79,7 @@ sound_push (c ∷ bs) b s n a =
     let other : eqb b.number c.number ≡ false = ne_eqb _ _ (λ q. eqb-false _ _ (not-true _ p.0) (sym q)) in
     let last : absent c.number (b ∷ []) ≡ true = and_from _ _ (not_from_false _ other) refl in
     and_from _ _ (sound_number c bs s)
-    (and_from _ _ (absent_append c.number bs (b ∷ []) ∙ and_from _ _ (sound_apart c bs s) last)
+    (and_from _ _ (list_all-append (λ (x : Block). not (eqb x.number c.number)) bs (b ∷ []) ∙ and_from _ _ (sound_apart c bs s) last)
     (sound_push bs b (sound_rest c bs s) n p.1))
 
 pub reserved_removed : (bs : List Block) (i : ℕ) → reserved (remove bs i) ≤ reserved bs

@@ -1,4 +1,5 @@
 -- The sequences in order of creation.
+use Rattle.std.specs.List.{list_all}
 use Rattle.std.specs.Prelude.{ℕ, ◌+◌, ◌<◌, ◌≤◌, Bool, true, cond, not, ◌&&◌, List, [], ◌∷◌, length, Some, None, Option, ◌==◌}
 use Rattle.store.specs.declared.directory.Block.{Block}
 use Rattle.store.specs.declared.directory.Span.{Span}
@@ -17,8 +18,7 @@ placed index offset (b ∷ bs) n =
     (placed (index + 1) (offset + b.reserve) bs n)
 
 abbrev pub absent : ℕ → List Block → Bool
-absent n [] = true
-absent n (b ∷ bs) = not (b.number == n) && absent n bs
+absent n bs = list_all (λ b. not (b.number == n)) bs
 
 -- each number is a sequence's, and no two are the same
 abbrev pub sound : List Block → Bool

@@ -17,7 +17,7 @@ figure_value_lem d h = grind (arith, nat_tests)
 
 under : (b : Bool) (x y : Option ℕ) (k r : ℕ) → (x ≡ Some k → y ≡ Some r) → cond b x None ≡ Some k → cond b y None ≡ Some r
 under true x y k r f e = f e
-under false x y k r f e = let z : ◌≡◌ {A = ℕ} 0 1 = cc in absurd (omega arith)
+under false x y k r f e = cc
 
 -- one figure behind those that are read
 value_push : (m k d : ℕ) (xs : List ℕ) → d < 10 → value_from 10 m xs ≡ Some k → value_from 10 m (xs ++ (48 + d) ∷ []) ≡ Some (k * 10 + d)

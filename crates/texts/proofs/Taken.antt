@@ -1,9 +1,10 @@
 -- What SP takes counts as written.
-use Rattle.std.proofs.Common.{◌≡◌, ℕ, ◌+◌, ◌*◌, ◌/◌, ◌≤◌, Bool, true, false, cond, List, [], ◌∷◌, Some, None, Ok, Err, codes, Option, Result, sym, refl, ap, ◌∙◌, subst, arith}
+use Rattle.std.proofs.Common.{◌≡◌, ℕ, ◌+◌, ◌*◌, ◌/◌, ◌≤◌, Bool, true, false, cond, List, [], ◌∷◌, Some, None, Ok, codes, Option, Result, sym, refl, ap, ap₂, ◌∙◌, subst, arith}
 use lib.Bits.{bit_and, and_step}
-use Rattle.faults.specs.Faults.{and_then}
+use Rattle.faults.proofs.Results.{then_ok, tested}
 use Rattle.std.proofs.lemmas.Bool.{eq-eqb, and_from}
 use Rattle.std.proofs.lemmas.Bool.Decides.{nat_tests}
+use Rattle.std.proofs.lemmas.Option.{cond_some}
 use Rattle.std.specs.Option.{ok_or}
 use Rattle.faults.specs.declared.Fault.{Fault}
 use Rattle.words.specs.Readings.{by, end}
@@ -20,34 +21,16 @@ use Rattle.fields.specs.declared.fields.Course.{Course}
 use Rattle.fields.specs.declared.fields.Motion.{Motion}
 use Rattle.fields.specs.declared.fields.RawPhase.{RawPhase}
 use Rattle.fields.specs.Fields.{named_by, level_by, named_of, levels_of, inputs_of, link_in, past_link, inputs_in, next_in, outputs_in, address_in, motion_in, course_in, past_course, sp_form}
+use Rattle.fields.proofs.Marks.{named_le}
 use Rattle.values.specs.Values.{limited, address_values, set_point_value, link_value, next_value, outputs_value, record_values, sp_values}
 use Rattle.texts.specs.ReadBack.{TakesWritten}
 
--- a reading that succeeds has succeeded in its first part
-then_ok : {A B : Type 0} (r : Result A Fault) (f : A → Result B Fault) (b : B) → and_then r f ≡ Ok b → (a : A) × ((r ≡ Ok a) × (f a ≡ Ok b))
-then_ok (Ok x) f b e = (x, (refl, e))
-then_ok (Err x) f b e = let z : ◌≡◌ {A = ℕ} 0 1 = cc in absurd (omega arith)
-
-tested : {A : Type 0} (b : Bool) (x y : A) (f : Fault) → ◌≡◌ {A = Result A Fault} (cond b (Ok x) (Err f)) (Ok y) → (b ≡ true) × (x ≡ y)
-tested true x y f e = (refl, cc)
-tested false x y f e = let z : ◌≡◌ {A = ℕ} 0 1 = cc in absurd (omega arith)
-
-chosen : {A : Type 0} (b : Bool) (x y : A) → ◌≡◌ {A = Option A} (cond b (Some x) None) (Some y) → x ≡ y
-chosen true x y e = cc
-chosen false x y e = let z : ◌≡◌ {A = ℕ} 0 1 = cc in absurd (omega arith)
-
 said : {A : Type 0} (o : Option A) (f : Fault) (a : A) → ok_or o f ≡ Ok a → o ≡ Some a
-said None f a e = let z : ◌≡◌ {A = ℕ} 0 1 = cc in absurd (omega arith)
-said (Some x) f a e = let same : x ≡ a = cc in ap Some same
-
-named_le : (m : ℕ) → named_by m ≤ 1
-named_le m = grind (arith, nat_tests)
+said None f a e = cc
+said (Some x) f a e = cc
 
 level_le : (m : ℕ) → level_by m ≤ named_by m
 level_le m = grind (arith, nat_tests)
-
-halves : (a b x y : ℕ) → a ≡ x → b ≡ y → bit_and a b ≡ bit_and x y
-halves a b x y e f = λ i. bit_and (e i) (f i)
 
 marks_fit : (ms : List ℕ) → bit_and (named_of ms) (levels_of ms) ≡ levels_of ms
 marks_fit [] = refl
@@ -56,14 +39,14 @@ marks_fit (m ∷ ms) =
     let l = 2 * levels_of ms + level_by m in
     let a = named_le m in
     let b = level_le m in
-    let h : bit_and (n / 2) (l / 2) ≡ bit_and (named_of ms) (levels_of ms) = halves _ _ _ _ (omega arith) (omega arith) in
+    let h : bit_and (n / 2) (l / 2) ≡ bit_and (named_of ms) (levels_of ms) = ap₂ bit_and (omega arith) (omega arith) in
     omega (arith, and_step n l, h, marks_fit ms)
 
 inputs_fit : (w : List ℕ) (e : Inputs) → inputs_of w ≡ Some e → LevelsFit e ≡ true
-inputs_fit w e h = subst (λ (i : Inputs). LevelsFit i ≡ true) (chosen _ _ e h) (eq-eqb _ _ (marks_fit w))
+inputs_fit w e h = subst (λ (i : Inputs). LevelsFit i ≡ true) (cond_some _ _ e h).1 (eq-eqb _ _ (marks_fit w))
 
 by_fit : (o : Option (List ℕ)) (i : ℕ) (e : Inputs) → by inputs_of o i ≡ Ok e → LevelsFit e ≡ true
-by_fit None i e h = let z : ◌≡◌ {A = ℕ} 0 1 = cc in absurd (omega arith)
+by_fit None i e h = cc
 by_fit (Some w) i e h = inputs_fit w e (said _ _ e h)
 
 either_fit : (b : Bool) (o : Option (List ℕ)) (i : ℕ) (e : Inputs) → cond b (by inputs_of o i) (Ok (record { named = 0; levels = 0 })) ≡ Ok e → LevelsFit e ≡ true

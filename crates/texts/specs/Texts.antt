@@ -1,19 +1,19 @@
 -- The read-back text of a phase, and the reply that carries it.
 use Rattle.std.specs.Prelude.{ℕ, zero, suc, ◌/◌, ◌%◌, cond, List, [], ◌∷◌, ◌++◌, ℤ, Some, None, codes, Option, ◌==◌}
 use Rattle.words.specs.Words.{spaced}
-use Rattle.replies.specs.Replies.{figures_of, signed_of, hex_of}
+use Rattle.replies.specs.Replies.{ending, figures_of, signed_of, hex_of}
 use Rattle.phases.specs.declared.phase.Link.{Link}
 use Rattle.phases.specs.declared.phase.Link.TheVariants as link
 use Rattle.phases.specs.declared.phase.Nature.{Nature}
 use Rattle.phases.specs.declared.phase.Nature.TheVariants.{Relative, Origin, Absolute, ConstantSpeed, Wait, ZeroCounter, PlateauSpeed, PowerOn, PowerOff}
 use Rattle.phases.specs.declared.phase.Phase.{Phase}
 use Rattle.senses.specs.declared.Sense.{Sense}
-use Rattle.senses.specs.declared.Sense.TheVariants.{Forward, Back}
+use Rattle.senses.specs.Senses.{sense_sign}
 use Rattle.phases.specs.Phases.{Written}
 
+-- S and its sign
 abbrev pub sense_word : Sense → List ℕ
-sense_word Forward = codes "S+"
-sense_word Back = codes "S-"
+sense_word sense = 83 ∷ sense_sign sense ∷ []
 
 abbrev pub nature_word : Nature → List ℕ
 nature_word Relative = codes "NP"
@@ -79,4 +79,4 @@ rs_found ns np p = cond (Written p) (phase_text ns np p) (codes "X")
 
 -- the answer to RS at the address a
 unfoldable pub rs_text : ℕ → ℕ → ℕ → Phase → List ℕ
-rs_text a ns np p = figures_of 2 a ++ codes "ES " ++ rs_found ns np p ++ (13 ∷ 17 ∷ [])
+rs_text a ns np p = figures_of 2 a ++ codes "ES " ++ rs_found ns np p ++ ending

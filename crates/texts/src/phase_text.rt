@@ -3,21 +3,11 @@ ghost use Rattle.std.specs.Prelude.{◌≡◌, ◌+◌, ◌≤◌, [], ◌∷◌
 ghost use Rattle.words.specs.Words.{spaced};
 ghost use Rattle.replies.specs.Replies.{Room, Wrote, answered};
 ghost use Rattle.texts.specs.ReadBack.{ByteOrNone, Bytes, TakenBack};
-ghost use Rattle.texts.specs.Texts.{sense_word, nature_word, link_tag, link_word, mark as mark_of, marks, next_word, outputs_word, motion_words, course_words, phase_text, rs_found, rs_text};
+ghost use Rattle.texts.specs.Texts.{nature_word, link_tag, link_word, mark as mark_of, marks, next_word, outputs_word, motion_words, course_words, phase_text, rs_found, rs_text};
 
 use faults::Fault;
 use phases::{Inputs, Link, Nature, Phase, Position};
 use replies::{Reply, check_room};
-use senses::Sense;
-
-fn sense_letters(sense: Sense) -> [u8; 2]
-    ensures { result ≡ sense_word sense }
-{
-    match sense {
-        Sense::Forward => *b"S+",
-        Sense::Back => *b"S-",
-    }
-}
 
 fn nature_letters(nature: Nature) -> [u8; 2]
     ensures { result ≡ nature_word nature }
@@ -39,42 +29,35 @@ fn nature_letters(nature: Nature) -> [u8; 2]
 fn mark(named: u8, level: u8) -> u8
     ensures { result ≡ mark_of named level }
 {
-    if named == 0 {
-        b'X'
-    } else if level == 0 {
-        b'0'
-    } else {
-        b'1'
+    match (named, level) {
+        (0, _) => b'X',
+        (_, 0) => b'0',
+        _ => b'1',
     }
 }
 
-// Writes a mark for each of the first `width` inputs, as figures are written, by calling itself for the others.
-fn write_marks(reply: &mut Reply, inputs: Inputs, width: usize)
-    requires { Room reply.old width }
+// Writes a mark for each input, input 1 first, which is bit 0.
+fn write_marks(reply: &mut Reply, inputs: Inputs)
+    requires { Room reply.old 8 }
     ensures byte { inputs.named ≤ 255 }
-    ensures wrote { Wrote reply.old reply.new (marks width inputs.named inputs.levels) }
-    ensures len { reply.new.len ≡ reply.old.len + width }
+    ensures wrote { Wrote reply.old reply.new (marks 8 inputs.named inputs.levels) }
+    ensures len { reply.new.len ≡ reply.old.len + 8 }
 {
-    if width > 0 {
-        let Inputs { named, levels } = inputs;
-        reply.put(mark(named % 2, levels % 2));
-        let others = Inputs {
-            named: named / 2,
-            levels: levels / 2,
-        };
-        write_marks(reply, others, width - 1);
+    let Inputs { named, levels } = inputs;
+    for bit in 0..u8::BITS {
+        reply.put(mark(named >> bit & 1, levels >> bit & 1));
     }
 }
 
-// Writes a phase to go on with, or XX for none. Outputs are written in another base, so that one function for both would take more words.
-fn write_next(reply: &mut Reply, next: Option<u8>)
+// Writes a number in two figures, or XX for none. Outputs are written in another base, so that one function for both would take more words.
+fn write_number(reply: &mut Reply, number: Option<u8>)
     requires { Room reply.old 2 }
-    ensures wrote { Wrote reply.old reply.new (next_word next) }
+    ensures wrote { Wrote reply.old reply.new (next_word number) }
     ensures len { reply.new.len ≡ reply.old.len + 2 }
 {
-    match next {
+    match number {
         None => reply.text(b"XX"),
-        Some(np) => reply.figures(u32::from(np), 2),
+        Some(number) => reply.figures(u32::from(number), 2),
     }
 }
 
@@ -97,17 +80,13 @@ fn write_link(reply: &mut Reply, link: Option<Link<u8>>)
     ensures wrote { Wrote reply.old reply.new (spaced (link_tag link ∷ link_word link ∷ [])) }
     ensures len { reply.new.len ≡ reply.old.len + 5 }
 {
-    match link {
-        None => reply.text(b"NL XX"),
-        Some(Link::Sequence(number)) => {
-            reply.text(b"NL ");
-            reply.figures(u32::from(number), 2);
-        }
-        Some(Link::SubSequence(number)) => {
-            reply.text(b"NQ ");
-            reply.figures(u32::from(number), 2);
-        }
-    }
+    let (tag, number) = match link {
+        None => (b"NL ", None),
+        Some(Link::Sequence(number)) => (b"NL ", Some(number)),
+        Some(Link::SubSequence(number)) => (b"NQ ", Some(number)),
+    };
+    reply.text(tag);
+    write_number(reply, number);
 }
 
 // Writes what the phase does.
@@ -116,7 +95,7 @@ fn write_motion(p: &Phase, reply: &mut Reply)
     ensures wrote { Wrote reply.old reply.new (spaced (motion_words p.now)) }
     ensures len { reply.new.len ≡ reply.old.len + 15 }
 {
-    reply.text(&sense_letters(p.sense));
+    reply.text(&[b'S', p.sense.sign()]);
     reply.text(b" ");
     reply.text(&nature_letters(p.nature));
     reply.text(b" C");
@@ -132,9 +111,9 @@ fn write_course(p: &Phase, reply: &mut Reply)
 {
     write_link(reply, p.link);
     reply.text(b" NE ");
-    write_marks(reply, p.inputs, 8);
+    write_marks(reply, p.inputs);
     reply.text(b" NS ");
-    write_next(reply, p.next);
+    write_number(reply, p.next);
     reply.text(b" NO ");
     write_outputs(reply, p.outputs);
 }
@@ -170,17 +149,15 @@ fn write_found(p: &Phase, reply: &mut Reply, at: Position)
     }
 }
 
-// Answers RS at the module's address with this record, the phase at that position, in the frame of every answer.
+// Answers RS at the module's address with this record, the phase at that position. Buffer and address are lent for one call and handed on
+// to `Reply::begin`: a struct of both would be taken apart there.
 pub fn answer_rs(p: &Phase, out: &mut [u8], address: u8, at: Position) -> Result<usize, Fault>
     ensures back { OnOk result (TakenBack at p.now) }
     ensures length { IfOk result (λ n. n ≤ 58) }
     ensures answer { (result, out.new) ≡ answered (rs_text address at.sequence at.phase p.now) out.old }
 {
     check_room(out)?;
-    let mut reply = Reply::new(out);
-    reply.figures(u32::from(address), 2);
-    reply.text(b"ES ");
+    let mut reply = Reply::begin(out, address, b"ES ");
     write_found(p, &mut reply, at);
-    reply.text(b"\r\x11");
-    Ok(reply.len)
+    Ok(reply.finish())
 }

@@ -57,7 +57,7 @@ fn play_files(program: &Program, files: &[String]) -> Result<(), Failed> {
     )
 }
 
-// Does what the arguments ask for.
+// Does what the arguments ask for. The requests are the program's own, so that the library of both cannot match them.
 fn follow(program: &Program, words: &[String]) -> Result<(), Failed> {
     match read_request(words) {
         Ok(Request::Usage) => Ok(println!(program.rt; "{USAGE}")?),

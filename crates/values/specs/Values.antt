@@ -12,6 +12,7 @@ use Rattle.fields.specs.declared.fields.Course.{Course}
 use Rattle.fields.specs.declared.fields.Motion.{Motion}
 use Rattle.fields.specs.declared.fields.RawPhase.{RawPhase}
 use Rattle.phases.specs.Phases.{SetPointFits, NextFits}
+use Rattle.store.specs.declared.directory.Block.{Block}
 
 -- each result that a conversion of n gives is this value
 abbrev pub Becomes : {N T E : Type 0} → (N → Result T E → Type 0) → N → T → Type 0
@@ -25,13 +26,21 @@ limited value low high f n = cond (nat_le low n && nat_le n high) (Ok (value n))
 abbrev pub within : ℕ → ℕ → Fault → ℕ → Result ℕ Fault
 within low high f n = limited (λ m. m) low high f n
 
+-- word 2: a sequence
+abbrev pub sequence_value : ℕ → Result ℕ Fault
+sequence_value n = within 1 99 (past_limit 2) n
+
 -- words 2 and 3: the sequence, and the phase or how many phases
 unfoldable pub address_values : Address → Result Position Fault
-address_values a = and_then (within 1 99 (past_limit 2) a.sequence) (λ s. and_then (within 1 50 (no_such_phase 3) a.phase) (λ p. Ok (record { sequence = s; phase = p })))
+address_values a = and_then (sequence_value a.sequence) (λ s. and_then (within 1 50 (no_such_phase 3) a.phase) (λ p. Ok (record { sequence = s; phase = p })))
+
+-- words 2 and 3: a sequence to create, and how many phases it reserves
+abbrev pub block_values : Address → Result Block Fault
+block_values a = and_then (address_values a) (λ p. Ok (record { number = p.sequence; reserve = p.phase }))
 
 -- word 2: a sequence to erase; 0 stands for all of them, and is none
 abbrev pub erase_value : ℕ → Result (Option ℕ) Fault
-erase_value n = cond (n == 0) (Ok None) (and_then (within 1 99 (past_limit 2) n) (λ s. Ok (Some s)))
+erase_value n = cond (n == 0) (Ok None) (and_then (sequence_value n) (λ s. Ok (Some s)))
 
 -- word 6: the set point, by nature
 unfoldable pub set_point_value : Motion → Result ℤ Fault

@@ -2,12 +2,13 @@
 #![tactic(auto)]
 
 ghost use Rattle.std.specs.Prelude.{◌≡◌, ◌≤◌, ◌&&◌, ℕ, false, Err, nat_le};
-ghost use Rattle.values.specs.Values.{Becomes, limited, within as within_of, address_values, erase_value, set_point_value, link_value, next_value, outputs_value, record_values, sp_values};
+ghost use Rattle.values.specs.Values.{Becomes, limited, within as within_of, sequence_value, address_values, block_values, erase_value, set_point_value, link_value, next_value, outputs_value, record_values, sp_values};
 ghost use Rattle.faults.specs.Faults.{past_limit};
 
 use faults::Fault;
 use fields::{Address, Amount, Course, Motion, RawPhase};
 use phases::{Link, Phase, Position, next_fits};
+use store::Block;
 
 // The number as a value of the type, or the fault where it is not from `low` to `high`.
 #[tactic(auto, unfolding(crate::specs::Values::limited))]
@@ -17,11 +18,18 @@ where
     ensures refused { (nat_le low n && nat_le n high) ≡ false → result ≡ Err fault }
     ensures value { (value : ℕ → T) → ((m : ℕ) → m ≤ high → Becomes T.try_from_gives m (value m)) → result ≡ limited value low high fault n }
 {
-    if low <= n && n <= high {
+    if (low..=high).contains(&n) {
         T::try_from(n).map_err(|_| fault)
     } else {
         Err(fault)
     }
+}
+
+// A sequence's number, which is the second word.
+pub fn sequence_value(n: u64) -> Result<u8, Fault>
+    ensures { result ≡ sequence_value n }
+{
+    within(1, 99, Fault::past_limit(2), n)
 }
 
 // A sequence's number and a phase's, or how many it reserves, within their limits.
@@ -29,9 +37,20 @@ where
 pub fn address_values(address: Address) -> Result<Position, Fault>
     ensures { result ≡ address_values address }
 {
-    let sequence = within(1, 99, Fault::past_limit(2), address.sequence)?;
+    let sequence = sequence_value(address.sequence)?;
     let phase = within(1, 50, Fault::no_such_phase(3), address.phase)?;
     Ok(Position { sequence, phase })
+}
+
+// The number of a sequence to create and how many phases it reserves.
+pub fn block_values(address: Address) -> Result<Block, Fault>
+    ensures { result ≡ block_values address }
+{
+    let Position { sequence, phase } = address_values(address)?;
+    Ok(Block {
+        number: sequence,
+        reserve: phase,
+    })
 }
 
 // The sequence to erase; 0 stands for all of them, and is none.
@@ -41,7 +60,7 @@ pub fn erase_value(n: u64) -> Result<Option<u8>, Fault>
     if n == 0 {
         return Ok(None);
     }
-    Ok(Some(within(1, 99, Fault::past_limit(2), n)?))
+    Ok(Some(sequence_value(n)?))
 }
 
 // The set point within the limits of the nature.
@@ -49,11 +68,9 @@ pub fn erase_value(n: u64) -> Result<Option<u8>, Fault>
 fn set_point_value(motion: Motion) -> Result<i32, Fault>
     ensures { result ≡ set_point_value motion }
 {
-    if motion.nature.takes(motion.set_point) {
-        // The limits of every nature lie within an i32, so that the cast loses nothing.
-        Ok(motion.set_point as i32)
-    } else {
-        Err(Fault::past_limit(6))
+    match i32::try_from(motion.set_point) {
+        Ok(set_point) if motion.nature.takes(motion.set_point) => Ok(set_point),
+        _ => Err(Fault::past_limit(6)),
     }
 }
 

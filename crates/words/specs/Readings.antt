@@ -60,7 +60,3 @@ only_signed s = only signed s
 
 unfoldable pub only_hexadecimal : Ahead → Result ℕ Fault
 only_hexadecimal s = only hexadecimal s
-
--- two numbers, and no word behind them
-unfoldable pub two_unsigned : Ahead → Result (ℕ × ℕ) Fault
-two_unsigned s = and_then (unsigned s) (λ n. and_then (unsigned (past s)) (λ m. and_then (end (past (past s))) (λ _. Ok (n, m))))

@@ -5,6 +5,6 @@ mod numbers;
 mod reader;
 mod word;
 
-pub use numbers::{decimal_value, hexadecimal_value, is, signed_value};
+pub use numbers::{decimal_value, hexadecimal_value, signed_value};
 pub use reader::{Reader, cut};
 pub use word::{Placed, Word};

@@ -1,14 +1,6 @@
 // What the characters of a word say: a name, or a number.
 ghost use Rattle.std.specs.Prelude.{◌≡◌, ◌^◌, ◌<◌, ◌≤◌, IfSome, if◌then◌else◌, Some, None};
-ghost use Rattle.std.specs.Str.{bytes_eq};
 ghost use Rattle.words.specs.Numbers.{is_figure, figure_value, value_of, is_minus, unsigned_part, signed_of};
-
-// Whether a word is the given one, where no pattern can name it: the tag of a field, a name on the shelf.
-pub fn is(text: &[u8], name: &[u8]) -> bool
-    ensures { result ≡ bytes_eq text.now name.now }
-{
-    text == name
-}
 
 // What a figure counts in a base. `char::to_digit` would take small letters too.
 fn figure(c: u8, base: u8) -> Option<u8>
@@ -20,7 +12,7 @@ fn figure(c: u8, base: u8) -> Option<u8>
         b'A'..=b'F' => c - b'A' + 10,
         _ => return None,
     };
-    if value < base { Some(value) } else { None }
+    (value < base).then_some(value)
 }
 
 // The number that 1 to `most` figures write.
@@ -74,7 +66,7 @@ fn unsigned_part(text: &[u8]) -> &[u8]
 pub fn signed_value(text: &[u8]) -> Option<i64>
     ensures { result ≡ signed_of text.now }
 {
-    // Ten figures lie within an i64, so that the cast loses nothing.
+    // Ten figures lie within an i64, so that the cast loses nothing: `try_from` would add a branch that never runs.
     let n = value(unsigned_part(text), 10, 10)? as i64;
     Some(if is_minus(text) { -n } else { n })
 }

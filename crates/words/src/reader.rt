@@ -5,9 +5,8 @@ ghost use Rattle.words.specs.Words.{words, upcoming, past};
 ghost use Rattle.words.specs.Left.{left_in, ahead};
 ghost use Rattle.words.specs.Sorts.{command_text, text_of};
 ghost use Rattle.words.specs.Tags.{is_tag, past_field};
-ghost use Rattle.words.specs.Readings.{TakenAs, Follows, by, field_by, only, unsigned as unsigned_in, end as end_in, only_unsigned, only_signed, only_hexadecimal, two_unsigned};
+ghost use Rattle.words.specs.Readings.{TakenAs, Follows, by, field_by, only, unsigned as unsigned_in, end as end_in, only_unsigned, only_signed, only_hexadecimal};
 
-use crate::numbers::is;
 use crate::word::{Placed, Word};
 use faults::Fault;
 
@@ -29,6 +28,7 @@ pub fn cut(line: &[u8]) -> (&[u8], Option<&[u8]>)
     }
 }
 
+// Every function without a `requires` meets what is asked of a sort or of a reading.
 impl<'a> Reader<'a> {
     // Reads a line from its first word on, which has the given number.
     pub fn new(line: &'a [u8], number: u8) -> Reader<'a>
@@ -100,7 +100,7 @@ impl<'a> Reader<'a> {
         ensures value { result ≡ is_tag tag.now (upcoming (ahead self.old)) }
         ensures ahead { ahead self.new ≡ (if result then past (ahead self.old) else ahead self.old) }
     {
-        let found = self.rest.is_some_and(|line| is(cut(line).0, tag));
+        let found = self.rest.is_some_and(|line| cut(line).0 == tag);
         if found {
             let _ = self.next_word();
         }
@@ -163,17 +163,6 @@ impl<'a> Reader<'a> {
         ensures { result ≡ only_hexadecimal (ahead self.old) }
     {
         self.only(Word::Hexadecimal, Placed::number)
-    }
-
-    // Two numbers without a sign, and no word behind them.
-    #[tactic(auto, unfolding(crate::specs::Readings::two_unsigned))]
-    pub fn two_unsigned(&mut self) -> Result<(u64, u64), Fault>
-        ensures { result ≡ two_unsigned (ahead self.old) }
-    {
-        let first = self.unsigned()?;
-        let second = self.unsigned()?;
-        self.end()?;
-        Ok((first, second))
     }
 
     // No word may be left.

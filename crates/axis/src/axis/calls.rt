@@ -22,7 +22,7 @@ fn counted(counter: i32, sense: Sense) -> i32
     ensures { result ≡ wrapped24 (counter +ℤ one_step sense) }
 {
     let next = i64::from(counter) + i64::from(signed(sense));
-    // Within 24 bits the cast loses nothing.
+    // Within 24 bits the cast loses nothing: `try_from` would add a branch that never runs.
     ((next + 8_388_608).rem_euclid(16_777_216) - 8_388_608) as i32
 }
 

@@ -1,22 +1,24 @@
 // The calls of the module.
 ghost use Rattle.std.specs.Prelude.{◌≡◌, ◌≤◌, List, [], length, is_ok, if◌then◌else◌, None, Ok};
+ghost use Rattle.lines.specs.Addresses.{address_answer};
 ghost use Rattle.lines.specs.Lines.{kept, kept_of};
 ghost use Rattle.phases.specs.declared.phase.Phase.{Phase as Record};
 ghost use Rattle.law.specs.Events.{handed, with_room, received as arrived};
 ghost use Rattle.law.specs.Events.Event.{tick as ticking, levels as levelling, power_up as powering};
-ghost use Rattle.module.specs.Views.{rest_in, state_in, state_after, answer_to, new_rest, addressed, character_answer, tick_answer, plain_answer, address_answer};
+ghost use Rattle.module.specs.Rests.{step_due};
+ghost use Rattle.module.specs.Views.{rest_in, state_in, state_after, answer_to, new_rest, addressed, character_answer, tick_answer, plain_answer};
 
 use super::Module;
 use crate::effects::{affect, change};
-use axis::Axis;
+use axis::{Axis, signed};
 use control::Control;
 use faults::Fault;
-use lines::{Character, Receiver};
+use lines::{Character, Receiver, check_address};
 use outputs::StepOutput;
 use phases::Phase;
+use replies::check_room;
+use senses::Sense;
 use store::whole;
-
-const REPLY_ROOM: usize = 80;
 
 impl<O: StepOutput> Module<O> {
     // A new module over an output: its power is cut, its place stays.
@@ -40,9 +42,7 @@ impl<O: StepOutput> Module<O> {
         ensures fault { self.new.fault ≡ self.old.fault }
         ensures line { kept self.new.receiver.line ≡ (if is_ok result then kept_of [] else kept self.old.receiver.line) }
     {
-        if address > 63 {
-            return Err(Fault::wrong_address());
-        }
+        check_address(address)?;
         self.control.set_address(address);
         self.receiver = Receiver::new();
         Ok(())
@@ -76,17 +76,15 @@ impl<O: StepOutput> Module<O> {
         ensures answer { (result, out.new) ≡ character_answer (answer_to O.CYCLE self.old memory.old (handed (length memory.old) (with_room (length out.old) (arrived character.byte character.damaged)))) out.old }
     {
         whole(memory)?;
-        if out.len() < REPLY_ROOM {
-            return Err(Fault::short_reply());
-        }
+        check_room(out)?;
         self.receive(character, memory, out)
     }
 
-    // What a tick does: the step made, as a number that can be added to a place, and whether the module is still busy.
+    // What a tick does: the step made, and whether the module is still busy.
     #[tactic(auto, unfolding(crate::specs::Rests::ticked_rest))]
-    fn beat(&mut self, memory: &[Phase]) -> (i8, bool)
+    fn beat(&mut self, memory: &[Phase]) -> (Option<Sense>, bool)
         ensures state { state_in O.CYCLE self.new memory.now ≡ state_after O.CYCLE self.old memory.now ticking }
-        ensures answer { Ok result ≡ tick_answer (answer_to O.CYCLE self.old memory.now ticking) }
+        ensures answer { Ok (step_due result.0, result.1) ≡ tick_answer (answer_to O.CYCLE self.old memory.now ticking) }
     {
         let effects = self.control.tick(memory, self.axis.counter());
         let made = affect(&mut self.axis, &effects);
@@ -94,13 +92,15 @@ impl<O: StepOutput> Module<O> {
         (made, self.control.busy())
     }
 
-    // One tick of 1/40,000 s: the step made, as a number, and whether the module is still busy.
+    // One tick of 1/40,000 s: the step made, as a number that can be added to a place, and whether the module is still busy.
     pub fn tick(&mut self, memory: &[Phase]) -> Result<(i8, bool), Fault>
         ensures state { state_in O.CYCLE self.new memory.now ≡ state_after O.CYCLE self.old memory.now (handed (length memory.now) ticking) }
         ensures answer { result ≡ tick_answer (answer_to O.CYCLE self.old memory.now (handed (length memory.now) ticking)) }
     {
         whole(memory)?;
-        Ok(self.beat(memory))
+        let (made, busy) = self.beat(memory);
+        // A closure: by its name the function, which is of another crate, did not prove.
+        Ok((made.map_or(0, |sense| signed(sense)), busy))
     }
 
     // The levels of the inputs.

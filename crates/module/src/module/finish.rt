@@ -1,5 +1,5 @@
 // A finished line: judged, carried out and answered. The room of the buffer is tested in the public call alone, and asked for
-// behind it: a type for a tested buffer would be taken apart again at each answer. What stays is a fact of each call.
+// behind it: a type for a tested buffer would be taken apart again at each answer.
 ghost use Rattle.std.specs.Prelude.{◌≡◌, ◌≤◌, true, length, None};
 ghost use Rattle.lines.specs.Lines.{kept};
 ghost use Rattle.questions.specs.Questions.{fault_text, refused as refused_text};
@@ -16,7 +16,7 @@ use outputs::StepOutput;
 use phases::Phase;
 use questions::{answer_fault, refuse};
 
-// The reply to a refused line.
+// The reply to a refused line, to an own line alone, as in `reply`: one match for both would take the writing as a closure over the module.
 fn refusal(to: Addressee, out: &mut [u8]) -> Result<usize, Fault>
     requires { 80 ≤ length out.old }
     ensures { (result, out.new) ≡ sent (answered_to to refused_text) out.old }

@@ -35,7 +35,7 @@ impl Movement {
             up: 0,
             accumulated: 0,
             start: parameters.start,
-            plateau: plateau.at_least(parameters.start),
+            plateau: plateau.max(parameters.start),
             top: TICKS_PER_MS * u32::from(parameters.slope),
             constant,
             stopping: false,

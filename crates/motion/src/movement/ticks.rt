@@ -40,7 +40,7 @@ impl Movement {
         ensures most { result ≤ 20000 }
     {
         let rise = u64::from(self.plateau.value - self.start.value);
-        // The quotient is at most the rise, so that the cast loses nothing.
+        // The quotient is at most the rise, so that the cast loses nothing: `try_from` would add an error that nobody can meet.
         u32::from(self.start.value) + (rise * u64::from(ramp) / u64::from(self.top)) as u32
     }
 

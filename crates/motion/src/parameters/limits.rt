@@ -1,5 +1,5 @@
 // Speeds and parameters, made only within their limits.
-ghost use Rattle.std.specs.Prelude.{◌≡◌, ◌≤◌, max};
+ghost use Rattle.std.specs.Prelude.{◌≡◌, ◌≤◌};
 ghost use Rattle.motion.specs.Values.{speed_value, speed_within, values, values_made, values_within, initial_values};
 
 use super::{Parameters, Speed};
@@ -9,24 +9,11 @@ impl Speed {
     pub fn new(set_point: i32) -> Option<Speed>
         ensures { speed_value result ≡ speed_within set_point }
     {
-        if (20..=20_000).contains(&set_point) {
-            Some(Speed {
-                // Within the limits the cast loses nothing.
-                value: set_point as u16,
-            })
+        let value = u16::try_from(set_point).ok()?;
+        if (20..=20_000).contains(&value) {
+            Some(Speed { value })
         } else {
             None
-        }
-    }
-
-    // This speed, or that one if it is higher: two speeds compared, for which an order of all speeds would be longer.
-    pub(crate) fn at_least(self, least: Speed) -> Speed
-        ensures { result.value ≡ max self.value least.value }
-    {
-        if self.value < least.value {
-            least
-        } else {
-            self
         }
     }
 }
@@ -38,7 +25,7 @@ impl Parameters {
     {
         let start = Speed::new(i32::from(start))?;
         let plateau = Speed::new(i32::from(plateau))?;
-        if start.value <= plateau.value && (1..=65_000).contains(&slope) {
+        if start <= plateau && (1..=65_000).contains(&slope) {
             Some(Parameters {
                 start,
                 plateau,
@@ -78,7 +65,7 @@ impl Parameters {
         self.plateau.value
     }
 
-    // TR, in milliseconds.
+    // TR, in milliseconds; told with its limits, as VN and VX are, since a plain number has lost them.
     pub fn slope(&self) -> u16
         ensures value { result ≡ (values self.now).slope_time }
         ensures least { 1 ≤ result }

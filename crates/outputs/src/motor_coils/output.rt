@@ -53,7 +53,7 @@ impl<D: Drive> LineOutput for MotorCoils<D> {
     // The pattern at the place within the cycle, and no line without power.
     fn lines(&self) -> u8 {
         if self.power {
-            // The index is below the cycle, so that the cast loses nothing.
+            // The index is below the cycle, so that the cast loses nothing: `try_from` would add a branch that never runs.
             D::patterns()[self.index as usize]
         } else {
             0

@@ -59,14 +59,14 @@ impl Directory {
     }
 
     // Whether a sequence of that number and reserve can be created.
-    #[tactic(auto, using(crate::proofs::Asked::refused_exists, crate::proofs::Asked::refused_full, crate::proofs::Asked::admitted))]
+    #[tactic(auto, using(std::proofs::lemmas::Map::Keys::le_from_is_le, crate::proofs::Asked::refused_exists, crate::proofs::Asked::refused_full, crate::proofs::Asked::admitted))]
     pub fn admits(&self, block: Block) -> Result<(), Fault>
         ensures { result ≡ create_answer (sequences self.now) block.number block.reserve }
     {
-        if block.number == 0 || block.number > 99 {
+        if !(1..=99).contains(&block.number) {
             return Err(Fault::past_limit(2));
         }
-        if block.reserve == 0 || block.reserve > 50 {
+        if !(1..=50).contains(&block.reserve) {
             return Err(Fault::no_such_phase(3));
         }
         if self.find(block.number).is_some() {
@@ -132,7 +132,7 @@ impl Directory {
     {
         let span = self.find(at.sequence).ok_or(Fault::no_sequence())?;
         let phase = usize::from(at.phase);
-        if phase == 0 || phase > span.reserve {
+        if !(1..=span.reserve).contains(&phase) {
             return Err(Fault::past_reserve());
         }
         Ok(span.offset + (phase - 1))

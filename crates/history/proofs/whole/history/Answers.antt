@@ -3,7 +3,7 @@ use Rattle.std.proofs.lemmas.List.{take_all, take_more_set, map_push, drop-set-l
 use Rattle.law.specs.Events.{event}
 use Rattle.law.specs.History.{State, next, answer, after, answers}
 use Rattle.law.specs.declared.Call.{Call}
-use Rattle.law.specs.declared.Call.TheVariants.{Character}
+use Rattle.law.specs.declared.Action.TheVariants.{Character}
 use Rattle.law.proofs.Steps.{after_more, answers_more}
 use Rattle.module.specs.Machine.{module_device}
 use Rattle.module.specs.Views.{state_in}
@@ -19,7 +19,7 @@ loop-i-preserved g c =
     let y = g.O.StepOutput.CYCLE in
     let calls = c.args.calls.now in
     let i = c.loop-i.i in
-    let d : Call = Character (record { byte = 0; damaged = false }) 0 0 in
+    let d : Call = record { lent = 0; action = Character (record { byte = 0; damaged = false }) 0 } in
     let start : State (module_device y) = state_in y c.begin-device.result c.args.memory.now in
     let more : i < length calls = c.loop-i-test.true in
     let room : i < length c.loop-i.answers = omega arith in (

@@ -1,14 +1,11 @@
-use Rattle.std.proofs.Common.{ap, rules}
-use Rattle.replies.specs.Replies.{figures_of}
-use Rattle.replies.proofs.Writes.{wrote_then, wrote_as, answered_by}
+use Rattle.std.proofs.Common.{codes, rules}
+use Rattle.replies.proofs.Writes.{wrote_then, answered_framed}
 use Rattle.questions.specs.Questions.{version_text}
 use Rattle.questions.proofs.version.answer_version.Goals as goal
 
 pub returns-clause-answer : goal.returns-clause-answer
 unfolding version_text
 returns-clause-answer c =
-    answered_by
-    (wrote_then (wrote_as c.figures.ensures.wrote (ap (figures_of 2) c.from.ensures))
-    (wrote_then c.text.ensures
-    (wrote_then c.figures-2.ensures.wrote c.text-2.ensures)))
-    c.new-reply.ensures.empty c.new-reply.ensures.buffer c.in_ok-check_room.ensures.room (search rules)
+    answered_framed c.args.address (codes "EV 10 ") c.begin-reply.ensures.wrote
+    (wrote_then c.figures.ensures.wrote c.finish.ensures.wrote)
+    c.finish.ensures.length c.in_ok-check_room.ensures.room (search rules)

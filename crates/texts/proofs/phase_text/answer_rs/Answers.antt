@@ -1,16 +1,12 @@
-use Rattle.std.proofs.Common.{ap, rules}
+use Rattle.std.proofs.Common.{codes, rules}
 use Rattle.replies.specs.Replies.{figures_of}
-use Rattle.replies.proofs.Writes.{wrote_then, wrote_as, answered_by}
+use Rattle.replies.proofs.Writes.{wrote_then, answered_framed}
 use Rattle.texts.specs.Texts.{rs_text}
 use Rattle.texts.proofs.phase_text.answer_rs.Goals as goal
 
 pub returns-clause-answer : goal.returns-clause-answer
-unfolding rs_text
+unfolding rs_text figures_of
 returns-clause-answer c =
-    answered_by
-    (wrote_then
-    (wrote_then
-    (wrote_then (wrote_as c.figures.ensures.wrote (ap (figures_of 2) c.from.ensures)) c.text.ensures)
-    c.write_found.ensures.wrote)
-    c.text-2.ensures)
-    c.new-reply.ensures.empty c.new-reply.ensures.buffer c.in_ok-check_room.ensures.room (search rules)
+    answered_framed c.args.address (codes "ES ") c.begin-reply.ensures.wrote
+    (wrote_then c.write_found.ensures.wrote c.finish.ensures.wrote)
+    c.finish.ensures.length c.in_ok-check_room.ensures.room (search rules)
