@@ -7,7 +7,8 @@ use Rattle.motion.specs.Values.{Values, values, initial_values}
 use Rattle.motion.specs.Motions.{Motion, motion}
 use Rattle.store.specs.declared.directory.Block.{Block}
 use Rattle.store.specs.Directories.{sequences}
-use Rattle.engine.specs.Progress.{Progress, progress}
+use Rattle.phases.specs.declared.phase.Position.{Position}
+use Rattle.engine.specs.Progress.{Progress, progress, upcoming}
 use Rattle.orders.specs.declared.order.Situation.{Situation}
 use Rattle.control.specs.declared.activity.Activity.{Activity}
 use Rattle.control.specs.declared.activity.Activity.TheVariants.{Moving, Running}
@@ -75,6 +76,12 @@ abbrev pub is_busy : Doing → Bool
 is_busy resting = false
 is_busy (moving m) = true
 is_busy (running r) = true
+
+-- the phase that the next tick enters, if it enters one
+abbrev pub upcoming_in : Doing → Option Position
+upcoming_in resting = None
+upcoming_in (moving m) = None
+upcoming_in (running r) = upcoming r
 
 -- what the rows ask of the module
 abbrev pub situation : State → Situation

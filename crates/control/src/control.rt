@@ -2,7 +2,7 @@
 ghost use Rattle.std.specs.Prelude.{◌≡◌, Some};
 ghost use Rattle.lines.specs.Lines.{kept};
 ghost use Rattle.orders.specs.Judged.{judged};
-ghost use Rattle.control.specs.States.{state, initial, is_busy, situation, with_address, with_levels};
+ghost use Rattle.control.specs.States.{state, initial, is_busy, upcoming_in, situation, with_address, with_levels};
 
 use crate::activity::Activity;
 use crate::settings::Settings;
@@ -10,6 +10,7 @@ use engine::Power;
 use faults::Fault;
 use lines::Line;
 use orders::{Order, Situation, judge};
+use phases::Position;
 use store::Directory;
 
 #[derive(Clone, Copy)]
@@ -52,6 +53,16 @@ impl Control {
         ensures { result ≡ is_busy (state self.now).doing }
     {
         self.activity.is_some()
+    }
+
+    // The phase that the next tick enters; none where no sequence runs, or while a phase goes on.
+    pub fn upcoming(&self) -> Option<Position>
+        ensures { result ≡ upcoming_in (state self.now).doing }
+    {
+        match &self.activity {
+            Some(Activity::Running(run)) => run.upcoming(),
+            Some(Activity::Moving(_)) | None => None,
+        }
     }
 
     fn situation(&self) -> Situation

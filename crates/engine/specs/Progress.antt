@@ -32,6 +32,15 @@ activity_of (Waiting p n) = waiting p n
 abbrev pub progress : Run → Progress
 progress r = record { at = r.at; activity = activity_of r.state; plateau = speed_value r.plateau; returns = opened r.returns }
 
+-- the phase that the next tick enters, if it enters one
+abbrev pub to_enter : Activity → Position → Option Position
+to_enter entering at = Some at
+to_enter (moving p m) at = None
+to_enter (waiting p n) at = None
+
+abbrev pub upcoming : Progress → Option Position
+upcoming c = to_enter c.activity c.at
+
 abbrev pub progress_left : Option Run → Option Progress
 progress_left None = None
 progress_left (Some r) = Some (progress r)

@@ -1,6 +1,6 @@
 // A run of a sequence. A phase is the run's own and `here` is what it reads, so that the two go through its methods side by side.
 ghost use Rattle.std.specs.Prelude.{◌≡◌};
-ghost use Rattle.engine.specs.Progress.{progress, outcome, activity_of, stays};
+ghost use Rattle.engine.specs.Progress.{progress, outcome, activity_of, stays, upcoming};
 
 use crate::effects::Effects;
 use crate::outcome::Outcome;
@@ -31,6 +31,16 @@ pub struct Run {
 }
 
 impl Run {
+    // The phase that the next tick enters; none while a movement or a wait goes on.
+    pub fn upcoming(&self) -> Option<Position>
+        ensures { result ≡ upcoming (progress self.now) }
+    {
+        match self.state {
+            State::Entering => Some(self.at),
+            State::Moving(..) | State::Waiting(..) => None,
+        }
+    }
+
     // The run stays at its phase, in that state.
     fn stay(self, effects: Effects, state: State) -> Outcome
         ensures { outcome result ≡ stays (progress self) effects (activity_of state) }

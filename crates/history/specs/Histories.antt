@@ -11,6 +11,7 @@ use Rattle.law.specs.History.{State}
 use Rattle.law.specs.Law.{new}
 use Rattle.module.specs.Machine.{machine, module_device}
 use Rattle.module.specs.Views.{new_rest, addressed}
+use Rattle.history.specs.declared.answer.Reply.{Reply as Written}
 use Rattle.history.specs.declared.answer.Answer.{Answer}
 use Rattle.history.specs.declared.answer.Answer.TheVariants.{Reply, Ticked, Done}
 
@@ -21,10 +22,14 @@ begun cycle address m records = keep (machine cycle) (addressed (new_rest m reco
 abbrev pub started : (cycle : ℕ) → ℕ → Meaning → List Phase → State (module_device cycle)
 started cycle address m records = new (module_device cycle) (begun cycle address m records)
 
+-- the bytes of a reply
+abbrev pub told : Written → List ℕ
+told r = take r.length r.bytes
+
 -- what the answers of the code mean
 abbrev pub shown : Result Answer Fault → Answered
 shown (Err f) = refused (number_of f.cause)
-shown (Ok (Reply r)) = reply (take r.length r.bytes)
+shown (Ok (Reply r)) = reply (told r)
 shown (Ok (Ticked step busy)) = ticked step busy
 shown (Ok Done) = done
 

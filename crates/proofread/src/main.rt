@@ -3,22 +3,29 @@
 
 mod request;
 
+use outputs::{FullStepCoils, HalfStepCoils, PulseOutput};
 use programs::{Failed, Program};
-use request::{Request, read_request};
-use sheet::proofread;
+use request::{Output, Request, SheetRequest, read_request};
+use sheet::{Sheet, Unreadable, proofread};
 use std::process::ExitCode;
 
-const USAGE: &str = "usage: proofread [--address NN] FILE
+const USAGE: &str = "usage: proofread [--address NN] [--output full|half|pulse] FILE
 
-Sends a sequence file to a module that exists only here, and prints what becomes
-of each line; then the shelf, which is what the file means to store, against the
-store. FILE is - for standard input; the address is 00 to 63, and 00 if none is
-given. The status is 0 for a clean sheet, else 1.";
+Sends a sequence file to a module that exists only here, and prints each line
+with its reply; then the shelf, which is what the file means to store, against
+what the module reads back; then the run of each sequence, phase by phase. FILE
+is - for standard input; the address is 00 to 63, and 00 if none is given; the
+output is full if none is given. The status is 0 for a clean sheet, else 1.";
 
-// Prints the proof sheet of a file's bytes.
-fn print_sheet(program: &Program, address: u8, name: &str, bytes: &[u8]) -> Result<(), Failed> {
+// Prints a proof sheet.
+fn print_sheet(
+    program: &Program,
+    address: u8,
+    name: &str,
+    sheet: Result<Sheet, Unreadable>,
+) -> Result<(), Failed> {
     let rt = program.rt;
-    match proofread(rt.alloc(), address, bytes) {
+    match sheet {
         Ok(sheet) => {
             println!(rt; "proof sheet of {name} at module {address:02}")?;
             println!(rt)?;
@@ -33,16 +40,35 @@ fn print_sheet(program: &Program, address: u8, name: &str, bytes: &[u8]) -> Resu
     }
 }
 
+// Proofreads a file's bytes at a module over the output that is asked for.
+fn proofread_at(
+    program: &Program,
+    wanted: SheetRequest,
+    name: &str,
+    bytes: &[u8],
+) -> Result<(), Failed> {
+    let heap = program.rt.alloc();
+    let SheetRequest {
+        address,
+        output,
+        ..
+    } = wanted;
+    let sheet = match output {
+        Output::Full => proofread(heap, FullStepCoils::new(), address, bytes),
+        Output::Half => proofread(heap, HalfStepCoils::new(), address, bytes),
+        Output::Pulse => proofread(heap, PulseOutput::new(), address, bytes),
+    };
+    print_sheet(program, address, name, sheet)
+}
+
 // Does what the arguments ask for. The requests are the program's own, so that the library of both cannot match them.
 fn follow(program: &Program, words: &[String]) -> Result<(), Failed> {
     match read_request(words) {
         Ok(Request::Usage) => Ok(println!(program.rt; "{USAGE}")?),
-        Ok(Request::Sheet { address, file }) => {
-            program.with_file(
-                file,
-                |name, bytes| print_sheet(program, address, name, bytes),
-            )
-        }
+        Ok(Request::Sheet(wanted)) => program.with_file(
+            wanted.file,
+            |name, bytes| proofread_at(program, wanted, name, bytes),
+        ),
         Err(wrong) => program.refuse(wrong),
     }
 }

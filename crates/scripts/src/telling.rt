@@ -55,7 +55,7 @@ impl<'a, 'b> Telling<'a, 'b> {
             match answer {
                 Err(fault) => transcript.refused(*fault)?,
                 Ok(Answer::Reply(reply)) => {
-                    transcript.reply(reply.bytes.get(..reply.length).unwrap_or(&[]))?;
+                    transcript.reply(reply.text())?;
                     busy = None;
                 }
                 Ok(Answer::Ticked(_, now)) => busy = Some(*now),

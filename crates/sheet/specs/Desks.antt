@@ -1,18 +1,30 @@
 -- What a desk has gathered of a file, and what a sheet tells of it.
-use Rattle.std.specs.Prelude.{List, map, vec_items}
+use Rattle.std.specs.Prelude.{◌≡◌, ℕ, List, map, vec_items}
 use Rattle.lines.specs.Lines.{kept}
+use Rattle.store.specs.declared.directory.Block.{Block}
+use Rattle.host.specs.Hosts.{state_of}
+use Rattle.runs.specs.declared.report.Report.{Report}
 use Rattle.sheet.specs.declared.reading.Desk.{Desk}
+use Rattle.sheet.specs.declared.reading.Notes.{Notes}
 use Rattle.sheet.specs.declared.sheet.Sheet.{Sheet}
-use Rattle.sheet.specs.declared.shelf.Meant.{Meant}
-use Rattle.sheet.specs.declared.verdict.ShelfPhase.{ShelfPhase}
+use Rattle.sheet.specs.Steps.{shelf_of}
 use Rattle.sheet.specs.Files.{Gathered, lines_of}
+use Rattle.sheet.specs.Exchanges.{Sent, exchanges_of}
 
-abbrev pub progress : Desk → Gathered
-progress d = record { lines = lines_of (vec_items d.notes.entries); held = kept d.receiver.line }
-
--- the phases of the shelf that have a verdict
-abbrev pub meant_in : List ShelfPhase → List Meant
-meant_in ps = map (λ p. p.meant) ps
+module _ {O : Type 0} where
+  abbrev pub progress : (cycle : ℕ) → Desk O → Sent cycle
+  progress cycle d = record { exchanges = exchanges_of (vec_items d.notes.entries); state = state_of cycle d.host }
 
 abbrev pub told : Sheet → Gathered
 told s = record { lines = lines_of (vec_items s.entries); held = kept s.held }
+
+-- the numbers of the sequences that were run, and of those that the module has
+abbrev pub run_in : List Report → List ℕ
+run_in rs = map (λ r. r.sequence) rs
+
+abbrev pub numbers_in : List Block → List ℕ
+numbers_in bs = map (λ b. b.number) bs
+
+-- the shelf is that of the lines so far
+abbrev pub UpToDate : Notes → Type 0
+UpToDate n = vec_items n.shelf ≡ shelf_of n.address (vec_items n.entries)

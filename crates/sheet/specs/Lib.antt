@@ -1,9 +1,12 @@
 pub mod Addresses
 pub mod Characters
 pub mod Desks
+pub mod Exchanges
 pub mod Fates
 pub mod Files
+pub mod ReadBack
 pub mod Reasons
 pub mod Shelves
 pub mod Sheets
+pub mod Steps
 pub mod Verdicts

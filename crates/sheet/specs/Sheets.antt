@@ -1,10 +1,12 @@
 -- The counts of a proof sheet, and when it is clean.
-use Rattle.std.specs.Prelude.{ℕ, Bool, not, ◌&&◌, List, length, vec_items, vec_len, ◌==◌, count_by}
+use Rattle.std.specs.Prelude.{ℕ, Bool, not, ◌&&◌, List, length, vec_items, vec_len, ◌==◌, count_by, is_some}
 use Rattle.lines.specs.Lines.{kept}
 use Rattle.sheet.specs.declared.entry.Entry.{Entry}
 use Rattle.sheet.specs.declared.verdict.ShelfPhase.{ShelfPhase}
 use Rattle.sheet.specs.declared.sheet.Sheet.{Sheet}
 use Rattle.sheet.specs.Fates.{is_refused}
+use Rattle.runs.specs.declared.report.Report.{Report}
+use Rattle.runs.specs.Runs.{fault_in}
 use Rattle.sheet.specs.Verdicts.{is_stored}
 
 abbrev pub refused_in : List Entry → ℕ
@@ -17,6 +19,12 @@ stored_in ps = count_by (λ p. is_stored p.verdict) ps
 abbrev pub is_unfinished : Sheet → Bool
 is_unfinished s = not (length (kept s.held).characters == 0)
 
--- no line is refused, none is unfinished, and each phase is stored as on the shelf
+-- the runs that a fault ended
+abbrev pub faults_in : List Report → ℕ
+faults_in rs = count_by (λ r. is_some (fault_in r.ending)) rs
+
+-- no line is refused, none is unfinished, each phase is stored as on the shelf, and no run was ended by a fault
 abbrev pub is_clean : Sheet → Bool
-is_clean s = refused_in (vec_items s.entries) == 0 && (not (is_unfinished s) && stored_in (vec_items s.shelf) == vec_len s.shelf)
+is_clean s =
+    refused_in (vec_items s.entries) == 0
+    && (not (is_unfinished s) && (stored_in (vec_items s.shelf) == vec_len s.shelf && faults_in (vec_items s.runs) == 0))

@@ -1,20 +1,18 @@
-// A line of the file and what became of it.
+// A line of the file, what became of it, and the reply.
 ghost use Rattle.std.specs.Prelude.{◌≡◌};
-ghost use Rattle.sheet.specs.Fates.{is_refused, fate_of, found_by};
+ghost use Rattle.sheet.specs.Fates.{fate_of, is_refused};
 
-use crate::text::{ReadBack, Text};
+use crate::text::Text;
 use faults::{Cause, Fault, Place};
+use history::Reply;
 use lines::Line;
-use loader::{Done, Order, Outcome};
-use phases::{Phase, Position};
+use orders::Order;
 use std::fmt;
 
-// What became of a line. A Result would need a second enum for what is accepted, and an Option around both for a stranger's line.
+// What became of a line, to be printed: each end has words of its own. An Option of a Result would need its nothing for what is accepted.
 #[derive(Clone, Copy)]
 pub enum Fate {
     Accepted,
-    Found { at: Position, record: Option<Phase> },
-    OtherCommand,
     Refused(Fault),
     Stranger,
 }
@@ -25,37 +23,19 @@ pub struct Entry {
     pub number: usize,
     pub line: Line,
     pub fate: Fate,
+    pub reply: Reply,
 }
 
 impl Fate {
-    // What the loader answered to a line that asks for this order. A line without an answer counts as refused.
-    pub(crate) fn of(order: Option<Result<Order, Fault>>, outcome: Option<Outcome>) -> Fate
-        ensures { result ≡ fate_of order outcome }
+    // The fate of a line that the module judges so.
+    pub(crate) fn of(judged: Option<Result<Order, Fault>>) -> Fate
+        ensures { result ≡ fate_of judged }
     {
-        match outcome {
-            None => Fate::Refused(Fault::bad_line()),
-            Some(Outcome::Stranger) => Fate::Stranger,
-            Some(Outcome::Refused(fault)) => Fate::Refused(fault),
-            Some(Outcome::Accepted(Done::Stored)) => Fate::Accepted,
-            Some(Outcome::Accepted(Done::Other)) => Fate::OtherCommand,
-            Some(Outcome::Accepted(Done::Found(read))) => found(order, read),
+        match judged {
+            Some(Ok(_)) => Fate::Accepted,
+            Some(Err(fault)) => Fate::Refused(fault),
+            None => Fate::Stranger,
         }
-    }
-
-    pub(crate) fn is_refused(&self) -> bool
-        ensures { result ≡ is_refused self.now }
-    {
-        matches!(self, Fate::Refused(_))
-    }
-}
-
-// The phase that a line asked for.
-fn found(order: Option<Result<Order, Fault>>, read: Option<Phase>) -> Fate
-    ensures { result ≡ found_by order read }
-{
-    match order {
-        Some(Ok(Order::Read(at))) => Fate::Found { at, record: read },
-        _ => Fate::Accepted,
     }
 }
 
@@ -94,7 +74,12 @@ impl fmt::Display for Reason {
             ),
             (Cause::UnknownCommand, _) => write!(f, "the first word names no command"),
             (Cause::BadLine, _) => write!(f, "the line has more than 64 characters"),
-            _ => write!(f, "the module cannot do this now"),
+            (Cause::Busy, _) => write!(f, "the module is busy"),
+            (Cause::StartPastPlateau, _) => write!(
+                f,
+                "the start speed would be above the plateau speed"
+            ),
+            _ => write!(f, "the module cannot do this"),
         }
     }
 }
@@ -111,24 +96,20 @@ fn write_refusal<W: fmt::Write>(f: &mut fmt::Formatter<W>, fault: Fault) -> fmt:
     }
 }
 
-impl fmt::Display for Fate {
+// The bytes of a reply: its text, or two bytes as they are.
+#[derive(Clone, Copy)]
+struct Answer<'a>(&'a [u8]);
+
+impl fmt::Display for Answer<'_> {
     fn fmt<W: fmt::Write>(&self, f: &mut fmt::Formatter<W>) -> fmt::Result {
-        match self {
-            Fate::Accepted => write!(f, "accepted"),
-            Fate::Found { record: None, .. } => write!(f, "accepted (unwritten)"),
-            Fate::Found {
-                at,
-                record: Some(record),
-            } => {
-                let found = ReadBack {
-                    at: *at,
-                    record: *record,
-                };
-                write!(f, "accepted ({found})")
+        match self.0 {
+            [] => write!(f, "no reply"),
+            [first, second] => write!(f, "{first:02X}h {second:02X}h"),
+            [text @ .., _, _] => {
+                let text = Text(text);
+                write!(f, "{text}")
             }
-            Fate::OtherCommand => write!(f, "a command of the module, form is right"),
-            Fate::Refused(fault) => write_refusal(f, *fault),
-            Fate::Stranger => write!(f, "another module's line, touches nothing here"),
+            _ => Ok(()),
         }
     }
 }
@@ -137,12 +118,25 @@ impl Entry {
     pub(crate) fn is_refused(&self) -> bool
         ensures { result ≡ is_refused self.now.fate }
     {
-        self.fate.is_refused()
+        matches!(self.fate, Fate::Refused(_))
     }
 
     // How many characters of the line are shown.
     pub(crate) fn width(&self) -> usize {
         self.line.characters().len()
+    }
+
+    // What is said of the line behind its reply; the text of an answer speaks for itself.
+    fn write_judgement<W: fmt::Write>(&self, f: &mut fmt::Formatter<W>) -> fmt::Result {
+        match self.fate {
+            Fate::Stranger => write!(f, "  another module's line, touches nothing here"),
+            Fate::Refused(fault) => {
+                write!(f, "  ")?;
+                write_refusal(f, fault)
+            }
+            Fate::Accepted if self.reply.length > 2 => Ok(()),
+            Fate::Accepted => write!(f, "  accepted"),
+        }
     }
 
     // Writes the entry with its text in a column of the given width.
@@ -153,7 +147,9 @@ impl Entry {
     ) -> fmt::Result {
         let number = self.number;
         let text = Text(self.line.characters());
-        let fate = self.fate;
-        writeln!(f, "line {number:>3}  {text:<width$}  {fate}")
+        let answer = Answer(self.reply.text());
+        write!(f, "line {number:>3}  {text:<width$}  {answer}")?;
+        self.write_judgement(f)?;
+        writeln!(f)
     }
 }

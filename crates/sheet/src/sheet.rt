@@ -1,20 +1,23 @@
 // The proof sheet of a sequence file.
 ghost use Rattle.std.specs.Prelude.{◌≡◌, ◌≤◌, vec_len};
-ghost use Rattle.sheet.specs.Sheets.{refused_in, stored_in, is_unfinished, is_clean};
+ghost use Rattle.sheet.specs.Sheets.{refused_in, stored_in, faults_in, is_unfinished, is_clean};
 
 use crate::entry::Entry;
 use crate::text::Text;
 use crate::verdict::ShelfPhase;
 use lines::Line;
+use runs::Report;
 use std::fmt;
 
-// The lines of the file with what became of them, the unfinished line at its end, and the shelf
-// against the store.
+// The lines of the file with what became of them, the unfinished line at its end, whether the file left the module busy, the shelf
+// against the module, and the run of each sequence.
 #[derive(Drop)]
 pub struct Sheet {
     pub entries: Vec<Entry>,
     pub held: Line,
+    pub busy: bool,
     pub shelf: Vec<ShelfPhase>,
+    pub runs: Vec<Report>,
 }
 
 impl Sheet {
@@ -40,6 +43,13 @@ impl Sheet {
         self.shelf.iter().filter(|phase| phase.is_stored()).count()
     }
 
+    // How many runs were ended by a fault.
+    pub fn faulty_runs(&self) -> usize
+        ensures { result ≡ faults_in self.now.runs.items }
+    {
+        self.runs.iter().filter(|run| run.is_faulty()).count()
+    }
+
     // Whether the file ends in the middle of a line.
     pub fn is_unfinished(&self) -> bool
         ensures { result ≡ is_unfinished self.now }
@@ -47,15 +57,28 @@ impl Sheet {
         !self.held.characters().is_empty()
     }
 
-    // Whether no line is refused, none is unfinished, and each phase is stored as on the shelf.
+    // Whether no line is refused, none is unfinished, each phase is stored as on the shelf, and no run was ended by a fault.
     pub fn is_clean(&self) -> bool
         ensures { result ≡ is_clean self.now }
     {
-        self.refused() == 0 && !self.is_unfinished() && self.stored() == self.meant()
+        self.refused() == 0
+            && !self.is_unfinished()
+            && self.stored() == self.meant()
+            && self.faulty_runs() == 0
     }
 
     fn widest(&self) -> usize {
         self.entries.iter().map(Entry::width).max().unwrap_or(0)
+    }
+
+    fn write_counts<W: fmt::Write>(&self, f: &mut fmt::Formatter<W>) -> fmt::Result {
+        let refused = self.refused();
+        let stored = self.stored();
+        let meant = self.meant();
+        let faulty = self.faulty_runs();
+        writeln!(f, "{refused} lines refused")?;
+        writeln!(f, "{stored} of {meant} phases stored as on the shelf")?;
+        writeln!(f, "{faulty} runs ended by a fault")
     }
 
     fn write_entries<W: fmt::Write>(&self, f: &mut fmt::Formatter<W>) -> fmt::Result {
@@ -79,9 +102,20 @@ impl Sheet {
         writeln!(f, "  {held}")
     }
 
+    fn write_busy<W: fmt::Write>(&self, f: &mut fmt::Formatter<W>) -> fmt::Result {
+        if !self.busy {
+            return Ok(());
+        }
+        writeln!(f)?;
+        writeln!(
+            f,
+            "THE FILE LEAVES THE MODULE BUSY: what went on was cut off before the phases were read back"
+        )
+    }
+
     fn write_shelf<W: fmt::Write>(&self, f: &mut fmt::Formatter<W>) -> fmt::Result {
         writeln!(f)?;
-        writeln!(f, "the shelf against the store")?;
+        writeln!(f, "the shelf against the module")?;
         for phase in &self.shelf {
             write!(f, "{phase}")?;
         }
@@ -93,10 +127,13 @@ impl fmt::Display for Sheet {
     fn fmt<W: fmt::Write>(&self, f: &mut fmt::Formatter<W>) -> fmt::Result {
         self.write_entries(f)?;
         self.write_held(f)?;
+        self.write_busy(f)?;
         self.write_shelf(f)?;
-        let stored = self.stored();
-        let meant = self.meant();
+        for run in &self.runs {
+            writeln!(f)?;
+            write!(f, "{run}")?;
+        }
         writeln!(f)?;
-        writeln!(f, "{stored} of {meant} phases stored as on the shelf")
+        self.write_counts(f)
     }
 }

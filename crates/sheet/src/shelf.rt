@@ -1,5 +1,8 @@
 // The shelf: the phases that the file means to store, worked out from its lines alone.
 ghost use Rattle.std.specs.Prelude.{◌≡◌, ◌<◌, length, IfSome, OnOk};
+ghost use Rattle.std.specs.Option.{option_map};
+ghost use Rattle.lines.specs.Lines.{kept};
+ghost use Rattle.sheet.specs.Steps.{text_in, phase_named, refused_phase, step_of};
 ghost use Rattle.sheet.specs.Shelves.{number_to, position_of, same_place, erases, place_of, replaced, kept_of, stepped};
 
 use faults::Fault;
@@ -35,21 +38,26 @@ fn number_to(high: u8, number: Result<u64, Fault>) -> Option<u8>
 }
 
 // What a line says behind its address; none for a stranger's line.
-fn words_of(line: &Line, address: u8) -> Option<&[u8]> {
-    let text = line.characters();
-    match line.addressee(address) {
-        Addressee::Own => text.get(2..),
-        Addressee::Broadcast => Some(text),
-        Addressee::Stranger => None,
-    }
+fn text_of(line: &Line, address: u8) -> Option<&[u8]>
+    ensures { option_map (λ t. t.now) result ≡ text_in address (kept line.now) }
+{
+    let from = match line.addressee(address) {
+        Addressee::Own => 2,
+        Addressee::Broadcast => 0,
+        Addressee::Stranger => return None,
+    };
+    Some(line.characters().get(from..).unwrap_or(&[]))
 }
 
-// The phase that a refused line means to store.
-fn refused_phase(line: &Line, address: u8) -> Option<Meant> {
-    let mut reader = Reader::new(words_of(line, address)?, 1);
-    let Some(Word::Command(b"SP")) = reader.command() else {
-        return None;
-    };
+// The phase that these words mean to store, where SP is the first of them.
+fn phase_named(line: &Line, text: &[u8]) -> Option<Meant>
+    ensures { result ≡ phase_named line.now text.now }
+{
+    let mut reader = Reader::new(text, 1);
+    match reader.command() {
+        Some(Word::Command(b"SP")) => {}
+        _ => return None,
+    }
     let sequence = number_to(99, reader.unsigned());
     let phase = number_to(50, reader.unsigned());
     Some(Meant {
@@ -60,9 +68,18 @@ fn refused_phase(line: &Line, address: u8) -> Option<Meant> {
     })
 }
 
+// The phase that a refused line means to store.
+fn refused_phase(line: &Line, address: u8) -> Option<Meant>
+    ensures { result ≡ refused_phase address line.now }
+{
+    phase_named(line, text_of(line, address)?)
+}
+
 impl Step {
     // What a line does to the shelf of a module of the address, if it does anything.
-    pub(crate) fn of(line: &Line, address: u8) -> Option<Step> {
+    pub(crate) fn of(line: &Line, address: u8) -> Option<Step>
+        ensures { result ≡ step_of address line.now }
+    {
         match read_order(line, address)? {
             Ok(Order::Write { at, phase }) => Some(Step::Put(Meant {
                 line: *line,

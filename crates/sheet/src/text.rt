@@ -1,10 +1,14 @@
 // Which bytes a sequence file may hold, and how the text of a line and of a phase is written.
-ghost use Rattle.std.specs.Prelude.{◌≡◌, ◌-◌, length, take, drop, MatchOption};
+ghost use Rattle.std.specs.Prelude.{◌≡◌, MatchOption};
 ghost use Rattle.sheet.specs.Characters.{is_text, AllText, FirstStray};
+ghost use Rattle.sheet.specs.ReadBack.{unframed, phase_told};
 
+use fields::read_sp;
 use phases::{Phase, Position};
 use std::fmt;
 use texts::answer_rs;
+use values::sp_values;
+use words::Reader;
 
 // A printable character, 0Dh or 0Ah.
 pub(crate) fn is_text(byte: u8) -> bool
@@ -33,12 +37,22 @@ impl fmt::Display for Text<'_> {
 
 // A reply without its address, its letters ES and its end.
 fn unframed(reply: &[u8]) -> &[u8]
-    ensures { result.now ≡ take (length reply.now - 7) (drop 5 reply.now) }
+    ensures { result.now ≡ unframed reply.now }
 {
     match reply {
         [_, _, _, _, _, text @ .., _, _] => text,
         _ => &[],
     }
+}
+
+// The phase that a reply to RS tells, as SP takes its words; none where it tells an unwritten phase, or is no such reply.
+pub(crate) fn told_phase(reply: &[u8]) -> Option<Phase>
+    ensures { result ≡ phase_told reply.now }
+{
+    let mut reader = Reader::new(unframed(reply), 1);
+    let raw = read_sp(&mut reader).ok()?;
+    let (_, phase) = sp_values(raw).ok()?;
+    Some(phase)
 }
 
 // The record of a phase, to be written as it is read back.

@@ -1,13 +1,20 @@
-// Short files and their proof sheets.
-use sheet::{Unreadable, Verdict, proofread};
+// Short files and their proof sheets, at a module over full steps.
+use outputs::FullStepCoils;
+use runs::Ending;
+use sheet::{Sheet, Unreadable, Verdict, proofread};
+use std::alloc::Global;
 use std::test::Fail;
+
+fn sheet_of(heap: Global, address: u8, bytes: &[u8]) -> Result<Sheet, Unreadable> {
+    proofread(heap, FullStepCoils::new(), address, bytes)
+}
 
 const CUT: &[u8] = b"00SN 3 2\r00SP 3 1 S+ NX C-800\r00SP 3 2 S+ NH C0";
 
 // A file that lacks its last carriage return fails: its last phase is on the shelf and not stored.
 #[test]
 fn cut_file_fails(rt: HostRuntime) -> Result<(), Fail> {
-    let sheet = proofread(rt.alloc(), 0, CUT)?;
+    let sheet = sheet_of(rt.alloc(), 0, CUT)?;
     assert!(rt; !sheet.is_clean());
     assert!(rt; sheet.held.characters() == b"00SP 3 2 S+ NH C0".as_slice());
     assert_eq!(rt; sheet.stored(), 1);
@@ -23,21 +30,29 @@ fn cut_file_fails(rt: HostRuntime) -> Result<(), Fail> {
 
 #[test]
 fn cut_file_is_told(rt: HostRuntime) -> Result<(), Fail> {
-    let sheet = proofread(rt.alloc(), 0, CUT)?;
+    let sheet = sheet_of(rt.alloc(), 0, CUT)?;
     let told = sheet.to_string(rt.alloc())?;
     assert_eq!(rt;
         told.as_str(),
-        "line   1  00SN 3 2              accepted
-line   2  00SP 3 1 S+ NX C-800  accepted
+        "line   1  00SN 3 2              06h 11h  accepted
+line   2  00SP 3 1 S+ NX C-800  06h 11h  accepted
 
 THE FILE ENDS IN THE MIDDLE OF A LINE: its carriage return is missing, and it was not stored
   00SP 3 2 S+ NH C0
 
-the shelf against the store
+the shelf against the module
 sequence 03  phase 01  stored      03 01 S+ NX C-0000800 NL XX NE XXXXXXXX NS XX NO XX
 sequence 03  phase 02  NOT STORED  03 02 S+ NH C+0000000 NL XX NE XXXXXXXX NS XX NO XX
 
+run of sequence 03
+  phase       tick       at ms      for ms      steps    counter  outputs
+  03 01          1       0.025     939.325       -800       -800  FF
+  ended where sequence 03 has no phase 02 after 37574 ticks
+  THE TABLE STANDS -800 STEPS FROM THE ORIGIN
+
+0 lines refused
 1 of 2 phases stored as on the shelf
+0 runs ended by a fault
 "
     );
     Ok(())
@@ -46,7 +61,7 @@ sequence 03  phase 02  NOT STORED  03 02 S+ NH C+0000000 NL XX NE XXXXXXXX NS XX
 // A wait of 0 ms is past its limit; the phase is meant all the same.
 #[test]
 fn refused_line_fails(rt: HostRuntime) -> Result<(), Fail> {
-    let sheet = proofread(rt.alloc(), 0, b"00SN 3 1\r00SP 3 1 S+ NW C0\r")?;
+    let sheet = sheet_of(rt.alloc(), 0, b"00SN 3 1\r00SP 3 1 S+ NW C0\r")?;
     assert!(rt; !sheet.is_clean());
     assert_eq!(rt; sheet.refused(), 1);
     assert_eq!(rt; sheet.stored(), 0);
@@ -57,7 +72,7 @@ fn refused_line_fails(rt: HostRuntime) -> Result<(), Fail> {
 // Another module's erasure touches neither the store nor the shelf.
 #[test]
 fn stranger_touches_nothing(rt: HostRuntime) -> Result<(), Fail> {
-    let sheet = proofread(rt.alloc(), 0, b"00SN 3 1\r00SP 3 1 S+ NH C0\r01SE 3\r")?;
+    let sheet = sheet_of(rt.alloc(), 0, b"00SN 3 1\r00SP 3 1 S+ NH C0\r01SE 3\r")?;
     assert!(rt; sheet.is_clean());
     assert_eq!(rt; sheet.meant(), 1);
     Ok(())
@@ -66,7 +81,7 @@ fn stranger_touches_nothing(rt: HostRuntime) -> Result<(), Fail> {
 // A later line replaces an earlier one, and an erasure takes the phases off the shelf.
 #[test]
 fn clean_file_is_clean(rt: HostRuntime) -> Result<(), Fail> {
-    let sheet = proofread(
+    let sheet = sheet_of(
         rt.alloc(),
         7,
         b"SN 1 1\r\nSP 1 1 S+ NH C0\r\n07SE 1\r\n07SN 3 2\r\n07SP 3 1 S+ NP C5\r\nSP 3 1 S- NP C6\r\n",
@@ -78,7 +93,7 @@ fn clean_file_is_clean(rt: HostRuntime) -> Result<(), Fail> {
 
 #[test]
 fn binary_file_is_refused(rt: HostRuntime) -> Result<(), Fail> {
-    match proofread(rt.alloc(), 0, b"00SE 1\r\x80") {
+    match sheet_of(rt.alloc(), 0, b"00SE 1\r\x80") {
         Err(
             Unreadable::NotText {
                 offset: 7,
@@ -86,5 +101,84 @@ fn binary_file_is_refused(rt: HostRuntime) -> Result<(), Fail> {
             },
         ) => Ok(()),
         _ => Err(Fail::new("a byte that is no text is not told")),
+    }
+}
+
+// What is told of each sort of line: a question's text, a line to all, a refusal, a stranger's line.
+#[test]
+fn lines_and_replies(rt: HostRuntime) -> Result<(), Fail> {
+    let file = b"05RL\rVN 20\r05VN 19\rRX\r06VN 19\r05RX\r";
+    let told = sheet_of(rt.alloc(), 5, file)?.to_string(rt.alloc())?;
+    assert_eq!(rt;
+        told.as_str(),
+        "line   1  05RL     05EL 00500 02000 01000 000000 +
+line   2  VN 20    no reply  accepted
+line   3  05VN 19  15h 11h  refused: the value of word 2 is past its limit (1) at the values, word 2
+line   4  RX       no reply  refused: a question cannot be a broadcast (0) at the reader, word 1
+line   5  06VN 19  no reply  another module's line, touches nothing here
+line   6  05RX     05EE 0
+
+the shelf against the module
+
+2 lines refused
+0 of 0 phases stored as on the shelf
+0 runs ended by a fault
+"
+    );
+    Ok(())
+}
+
+// Sequence 1 links to a sequence that is not there: entered in tick 1, its wait of 1 ms ends in tick 41, with fault 3.
+#[test]
+fn absent_link_fails(rt: HostRuntime) -> Result<(), Fail> {
+    let sheet = sheet_of(rt.alloc(), 0, b"00SN 1 1\r00SP 1 1 S+ NW C1 NL 2\r")?;
+    assert!(rt; !sheet.is_clean());
+    assert_eq!(rt; sheet.faulty_runs(), 1);
+    match sheet.runs.last() {
+        Some(run) => {
+            assert_eq!(rt; run.ticks, 41);
+            assert!(rt; matches!(run.ending, Ending::Fault(_)));
+            Ok(())
+        },
+        None => Err(Fail::new("no sequence was run")),
+    }
+}
+
+// A phase that comes again and again is told once. Each time takes 41 ticks; 24,000,000 ticks are 585,365 times and 35 ticks more.
+#[test]
+fn endless_run_is_cut_off(rt: HostRuntime) -> Result<(), Fail> {
+    let sheet = sheet_of(rt.alloc(), 0, b"00SN 1 1\r00SP 1 1 S+ NW C1 NS 1\r")?;
+    assert!(rt; sheet.is_clean());
+    match sheet.runs.last() {
+        Some(run) => {
+            assert!(rt; matches!(run.ending, Ending::Endless));
+            assert_eq!(rt; run.ticks, 24_000_000);
+            assert_eq!(rt; run.rows.len(), 1);
+            assert!(rt;
+                run.rows
+                    .iter()
+                    .all(|row| row.times == 585_366 && row.ticks == 24_000_000)
+            );
+            Ok(())
+        },
+        None => Err(Fail::new("no sequence was run")),
+    }
+}
+
+// The file starts a sequence, and does not wait for its end: it is cut off, the phase is read back, and the sequence is run from the origin.
+#[test]
+fn busy_file_is_told(rt: HostRuntime) -> Result<(), Fail> {
+    let file = b"00SN 1 1\r00SP 1 1 S+ NP C1 NS 54\r00DP 7\r00SS 1\r00VN 30\r";
+    let sheet = sheet_of(rt.alloc(), 0, file)?;
+    assert!(rt; sheet.busy);
+    assert_eq!(rt; sheet.refused(), 1);
+    assert_eq!(rt; sheet.stored(), 1);
+    match sheet.runs.last() {
+        Some(run) => {
+            assert_eq!(rt; (run.counter, run.ticks), (1, 81));
+            assert!(rt; matches!(run.ending, Ending::Stop));
+            Ok(())
+        },
+        None => Err(Fail::new("no sequence was run")),
     }
 }

@@ -5,6 +5,7 @@ use super::Module;
 use axis::Axis;
 use control::Control;
 use faults::Fault;
+use lines::Line;
 use outputs::StepOutput;
 
 impl<O: StepOutput> Module<O> {
@@ -13,6 +14,13 @@ impl<O: StepOutput> Module<O> {
         ensures { result ≡ self.now.fault }
     {
         self.fault
+    }
+
+    // The unfinished line.
+    pub fn held(&self) -> Line
+        ensures { result ≡ self.now.receiver.line }
+    {
+        *self.receiver.held()
     }
 
     // The settings, the sequences and what goes on.

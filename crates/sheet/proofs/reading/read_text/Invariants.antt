@@ -1,7 +1,13 @@
+-- What is left of the file makes of the desk what the whole file does, and the shelf is that of the lines so far.
 use Rattle.std.proofs.Common.{◌≡◌, drop}
-use Rattle.sheet.specs.Files.{nothing, gathered}
-use Rattle.sheet.specs.Desks.{progress}
+use Rattle.host.specs.Hosts.{state_of}
+use Rattle.sheet.specs.Exchanges.{fresh, bytes_sent}
+use Rattle.sheet.specs.Desks.{progress, UpToDate}
 use Rattle.sheet.proofs.reading.read_text.Given as goal
 
 abbrev pub invariant-loop-byte : goal.invariant-loop-byte
-invariant-loop-byte l = gathered (progress l.desk) (drop l.byte-index l.bytes) ≡ gathered nothing l.bytes
+invariant-loop-byte g l =
+    (bytes_sent g.O.StepOutput.CYCLE (progress g.O.StepOutput.CYCLE l.desk) (drop l.byte-index l.bytes)
+    ≡ bytes_sent g.O.StepOutput.CYCLE (fresh g.O.StepOutput.CYCLE (state_of g.O.StepOutput.CYCLE l.fn.host)) l.bytes)
+    × UpToDate l.desk.notes
+    × (l.desk.notes.address ≡ l.address)

@@ -1,0 +1,80 @@
+// One phase of a run.
+use phases::Position;
+use std::fmt;
+
+// The tick that entered the phase, how many ticks it lasted from there, the steps made in it, the counter at its end,
+// and the outputs in it.
+// A phase that comes again and again, with no other between, is told once, with the number of times.
+#[derive(Clone, Copy)]
+pub struct Row {
+    pub at: Position,
+    pub times: u32,
+    pub entered: u32,
+    pub ticks: u32,
+    pub steps: i32,
+    pub counter: i32,
+    pub outputs: u8,
+}
+
+impl Row {
+    // A phase that was entered in that tick, under these outputs.
+    pub(crate) fn new(at: Position, entered: u32, outputs: u8) -> Row {
+        Row {
+            at,
+            times: 1,
+            entered,
+            ticks: 0,
+            steps: 0,
+            counter: 0,
+            outputs,
+        }
+    }
+
+    // A tick of the phase: the step made, and the counter then.
+    pub(crate) fn count(&mut self, step: i8, counter: i32) {
+        self.ticks = self.ticks.saturating_add(1);
+        self.steps = self.steps.saturating_add(i32::from(step));
+        self.counter = counter;
+    }
+
+    // The phase entered once more, which came to that.
+    pub(crate) fn repeat(&mut self, again: Row) {
+        self.times = self.times.saturating_add(1);
+        self.ticks = self.ticks.saturating_add(again.ticks);
+        self.steps = self.steps.saturating_add(again.steps);
+        self.counter = again.counter;
+    }
+}
+
+// A number of ticks as a time in ms: a tick is 1/40 ms.
+#[derive(Clone, Copy)]
+pub(crate) struct Milliseconds(pub u32);
+
+impl fmt::Display for Milliseconds {
+    fn fmt<W: fmt::Write>(&self, f: &mut fmt::Formatter<W>) -> fmt::Result {
+        let whole = self.0 / 40;
+        let thousandths = self.0 % 40 * 25;
+        write!(f, "{whole:>6}.{thousandths:03}")
+    }
+}
+
+impl fmt::Display for Row {
+    fn fmt<W: fmt::Write>(&self, f: &mut fmt::Formatter<W>) -> fmt::Result {
+        let Position { sequence, phase } = self.at;
+        let entered = self.entered;
+        let from = Milliseconds(self.entered);
+        let lasts = Milliseconds(self.ticks);
+        let steps = self.steps;
+        let counter = self.counter;
+        let outputs = self.outputs;
+        write!(
+            f,
+            "  {sequence:02} {phase:02}  {entered:>9}  {from}  {lasts}  {steps:>+9}  {counter:>+9}  {outputs:02X}"
+        )?;
+        if self.times > 1 {
+            let times = self.times;
+            write!(f, "  {times} times")?;
+        }
+        writeln!(f)
+    }
+}

@@ -1,0 +1,64 @@
+-- The shelf against the module: what RS tells of each phase that is meant.
+use Rattle.std.specs.Prelude.{◌≡◌, ◌-◌, ℕ, List, [], ◌∷◌, ◌++◌, length, take, drop, codes, Some, None, Ok, Err, Option, Result, is_ok, if◌then◌else◌}
+use Rattle.std.specs.Option.{option_and_then}
+use Rattle.faults.specs.declared.Fault.{Fault}
+use Rattle.faults.specs.Faults.{and_then}
+use Rattle.lines.specs.Addresses.{address_answer}
+use Rattle.words.specs.Words.{words}
+use Rattle.phases.specs.declared.phase.Phase.{Phase}
+use Rattle.phases.specs.declared.phase.Position.{Position}
+use Rattle.fields.specs.Fields.{sp_form}
+use Rattle.values.specs.Values.{sp_values}
+use Rattle.replies.specs.Replies.{figures_of}
+use Rattle.law.specs.Events.{Answer}
+use Rattle.law.specs.Events.Answer.{refused, reply, ticked, done}
+use Rattle.law.specs.History.{State}
+use Rattle.module.specs.Machine.{module_device}
+use Rattle.host.specs.Hosts.{set_anew, after_line, reply_to, line_to}
+use Rattle.sheet.specs.declared.shelf.Meant.{Meant}
+use Rattle.sheet.specs.declared.verdict.ShelfPhase.{ShelfPhase}
+use Rattle.sheet.specs.Shelves.{position_of}
+use Rattle.sheet.specs.Verdicts.{Judged}
+
+-- a reply without its address, its letters and its end
+abbrev pub unframed : List ℕ → List ℕ
+unframed t = take (length t - 7) (drop 5 t)
+
+abbrev pub record_of : Result (Position × Phase) Fault → Option Phase
+record_of (Ok p) = Some p.1
+record_of (Err f) = None
+
+-- the phase that a reply to RS tells, as SP takes its words; none where it tells no phase
+abbrev pub phase_told : List ℕ → Option Phase
+phase_told t = record_of (and_then (sp_form (words (unframed t), 1)) sp_values)
+
+abbrev pub text_of : Answer → List ℕ
+text_of (refused code) = []
+text_of (reply t) = t
+text_of (ticked step busy) = []
+text_of done = []
+
+-- RS, the sequence and the phase, in two figures each
+abbrev pub rs_line : Position → List ℕ
+rs_line at = codes "RS " ++ figures_of 2 at.sequence ++ codes " " ++ figures_of 2 at.phase
+
+-- what a module at the address a reads back, and the module then
+abbrev pub read_back : (cycle : ℕ) → ℕ → State (module_device cycle) → Position → Option Phase
+read_back cycle a s at = phase_told (text_of (reply_to cycle (line_to a (rs_line at)) s))
+
+abbrev pub after_reading : (cycle : ℕ) → ℕ → State (module_device cycle) → Option Position → State (module_device cycle)
+after_reading cycle a s None = s
+after_reading cycle a s (Some at) = after_line cycle (line_to a (rs_line at)) s
+
+-- each phase that is meant is held against what the module reads back in its place, one after the other
+abbrev pub Compared : (cycle : ℕ) → ℕ → State (module_device cycle) → List Meant → List ShelfPhase → Type 0
+Compared cycle a s [] ps = ps ≡ []
+Compared cycle a s (m ∷ ms) [] = ⊥
+Compared cycle a s (m ∷ ms) (p ∷ ps) =
+    (p.meant ≡ m)
+    × Judged m.record (option_and_then (read_back cycle a s) (position_of m)) p.verdict
+    × Compared cycle a (after_reading cycle a s (position_of m)) ms ps
+
+-- the module behind the file: its unfinished line is dropped, and what goes on is ended by GR
+abbrev pub settled : (cycle : ℕ) → ℕ → State (module_device cycle) → State (module_device cycle)
+settled cycle a s = after_line cycle (line_to a (codes "GR")) (if is_ok (address_answer a) then set_anew cycle a s else s)
