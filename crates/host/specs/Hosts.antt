@@ -44,9 +44,15 @@ after_line cycle text s = next (module_device cycle) (after_text cycle text s) e
 abbrev pub reply_to : (cycle : ℕ) → List ℕ → State (module_device cycle) → Answer
 reply_to cycle text s = answer (module_device cycle) (after_text cycle text s) ending
 
--- a line for the module of an address: its two figures, then the text
-abbrev pub line_to : ℕ → List ℕ → List ℕ
-line_to address text = figures_of 2 address ++ text
+-- a line for the module itself: the two figures of its address, then the text
+abbrev pub own_line : (cycle : ℕ) → List ℕ → State (module_device cycle) → List ℕ
+own_line cycle text s = figures_of 2 s.core.rest.control.address ++ text
+
+abbrev pub after_own : (cycle : ℕ) → List ℕ → State (module_device cycle) → State (module_device cycle)
+after_own cycle text s = after_line cycle (own_line cycle text s) s
+
+abbrev pub own_reply : (cycle : ℕ) → List ℕ → State (module_device cycle) → Answer
+own_reply cycle text s = reply_to cycle (own_line cycle text s) s
 
 -- the written phase at a position, if there is one
 abbrev pub phase_in : (cycle : ℕ) → State (module_device cycle) → Position → Option Phase

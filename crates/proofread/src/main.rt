@@ -1,4 +1,4 @@
-// Proofreads a sequence file: prints what became of each line, and the shelf against the store.
+// Proofreads a sequence file: prints what became of each line, and the shelf against the module, and the runs.
 #![tactic(auto)]
 
 mod request;

@@ -1,12 +1,12 @@
 -- The run of a sequence as calls of a module, and what is told of its end.
-use Rattle.std.specs.Prelude.{◌≡◌, ℕ, zero, suc, Bool, true, false, List, ◌++◌, codes, Some, None, Option}
+use Rattle.std.specs.Prelude.{◌≡◌, ℕ, zero, suc, ◌≤◌, Bool, true, false, List, [], ◌∷◌, ◌++◌, codes, Some, None, Option}
 use Rattle.faults.specs.declared.Fault.{Fault}
 use Rattle.law.specs.Events.Event.{tick}
 use Rattle.law.specs.History.{State, next}
 use Rattle.replies.specs.Replies.{figures_of}
 use Rattle.control.specs.States.{is_busy}
 use Rattle.module.specs.Machine.{module_device}
-use Rattle.host.specs.Hosts.{after_line, line_to}
+use Rattle.host.specs.Hosts.{after_own}
 use Rattle.runs.specs.declared.report.Report.{Report}
 use Rattle.runs.specs.declared.report.Ending.{Ending}
 use Rattle.runs.specs.declared.report.Ending.TheVariants.{Stop, NoPhase, Fault as Faulty, Endless}
@@ -15,13 +15,12 @@ use Rattle.runs.specs.declared.report.Ending.TheVariants.{Stop, NoPhase, Fault a
 abbrev pub start_line : ℕ → List ℕ
 start_line sequence = codes "SS " ++ figures_of 2 sequence
 
--- after GR, RX, DI and SS at this address
-abbrev pub started : (cycle : ℕ) → ℕ → ℕ → State (module_device cycle) → State (module_device cycle)
-started cycle a sequence s =
-    after_line cycle (line_to a (start_line sequence))
-    (after_line cycle (line_to a (codes "DI"))
-    (after_line cycle (line_to a (codes "RX"))
-    (after_line cycle (line_to a (codes "GR")) s)))
+-- what a run begins with: power off, no fault, the counter at 0, outputs FFh; then SS
+abbrev pub prepared : (cycle : ℕ) → State (module_device cycle) → State (module_device cycle)
+prepared cycle s = after_own cycle (codes "GL FF") (after_own cycle (codes "DI") (after_own cycle (codes "RX") (after_own cycle (codes "GR") s)))
+
+abbrev pub called : (cycle : ℕ) → ℕ → State (module_device cycle) → State (module_device cycle)
+called cycle sequence s = after_own cycle (start_line sequence) (prepared cycle s)
 
 -- after so many ticks more
 abbrev pub run_for : (cycle : ℕ) → ℕ → State (module_device cycle) → State (module_device cycle)
@@ -41,8 +40,26 @@ fault_in (NoPhase at) = None
 fault_in (Faulty f) = Some f
 fault_in Endless = None
 
+abbrev pub busy_in : (cycle : ℕ) → State (module_device cycle) → Bool
+busy_in cycle s = is_busy s.core.rest.control.doing
+
 -- what is told of the end is so: whether the module is still busy, its fault record, and the counter
 pub record EndsAs (cycle : ℕ) (s : State (module_device cycle)) (r : Report) : Type 0 where
-  pub endless : is_endless r.ending ≡ is_busy s.core.rest.control.doing
+  pub endless : is_endless r.ending ≡ busy_in cycle s
   pub fault : is_endless r.ending ≡ false → fault_in r.ending ≡ s.core.fault
   pub counter : r.counter ≡ s.core.rest.axis.counter
+
+-- what is told of a run that begins in this state is so: its end, that the module was busy before the last tick, and that a run which is
+-- told as endless went on for 24,000,000 ticks, the most that are waited for
+pub record WasRun (cycle : ℕ) (begun : State (module_device cycle)) (r : Report) : Type 0 where
+  pub ended : EndsAs cycle (run_for cycle r.ticks begun) r
+  pub last : (k : ℕ) → r.ticks ≡ suc k → busy_in cycle (run_for cycle k begun) ≡ true
+  pub cut : is_endless r.ending ≡ true → r.ticks ≡ 24000000
+  pub most : r.ticks ≤ 24000000
+
+-- each of the sequences run once, one after the other
+abbrev pub RunInTurn : (cycle : ℕ) → State (module_device cycle) → List ℕ → List Report → Type 0
+RunInTurn cycle s [] rs = rs ≡ []
+RunInTurn cycle s (n ∷ ns) [] = ⊥
+RunInTurn cycle s (n ∷ ns) (r ∷ rs) =
+    (r.sequence ≡ n) × WasRun cycle (called cycle n s) r × RunInTurn cycle (run_for cycle r.ticks (called cycle n s)) ns rs

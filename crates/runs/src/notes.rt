@@ -2,7 +2,7 @@
 ghost use Rattle.std.specs.Prelude.{◌≡◌, suc, true, false, ◌≤◌, ◌<◌, IfOk, OnOk};
 ghost use Rattle.law.specs.Events.Event.{tick as ticking};
 ghost use Rattle.host.specs.Hosts.{state_of, next_of};
-ghost use Rattle.runs.specs.Runs.{start_line, started, run_for, is_endless, fault_in, EndsAs};
+ghost use Rattle.runs.specs.Runs.{start_line, called, run_for, is_endless, fault_in, EndsAs, WasRun};
 
 use crate::report::{Ending, Report};
 use crate::row::Row;
@@ -132,24 +132,22 @@ fn start_line(sequence: u8) -> [u8; 5]
     [b'S', b'S', b' ', tens, units]
 }
 
-// Runs a sequence once on a module of the address: power is cut, which ends what goes on, the fault record is asked for, which clears it, the
-// counter is set to 0, and the sequence is started. Time passes until the run ends, or is endless.
+// Runs a sequence once on the module: power is cut, which ends what goes on, the fault record is asked for, which clears it, the counter is
+// set to 0 and the outputs to FFh, and the sequence is started. Time passes until the run ends, or is endless.
 pub fn run<O: StepOutput>(
     heap: Global,
     host: &mut Host<O>,
-    address: u8,
     sequence: u8,
 ) -> Result<Report, AllocError>
     ensures sequence { IfOk result (λ r. r.sequence ≡ sequence) }
-    ensures ticks { IfOk result (λ r. r.ticks ≤ 24000000) }
-    ensures history { IfOk result (λ r. state_of O.CYCLE host.new ≡ run_for O.CYCLE r.ticks (started O.CYCLE address sequence (state_of O.CYCLE host.old))) }
-    ensures ended { IfOk result (λ r. EndsAs O.CYCLE (state_of O.CYCLE host.new) r) }
-    ensures endless { IfOk result (λ r. is_endless r.ending ≡ true → r.ticks ≡ 24000000) }
+    ensures state { IfOk result (λ r. state_of O.CYCLE host.new ≡ run_for O.CYCLE r.ticks (called O.CYCLE sequence (state_of O.CYCLE host.old))) }
+    ensures run { IfOk result (λ r. WasRun O.CYCLE (called O.CYCLE sequence (state_of O.CYCLE host.old)) r) }
 {
-    host.send_to(address, b"GR");
-    host.send_to(address, b"RX");
-    host.send_to(address, b"DI");
-    host.send_to(address, &start_line(sequence));
+    host.send_own(b"GR");
+    host.send_own(b"RX");
+    host.send_own(b"DI");
+    host.send_own(b"GL FF");
+    host.send_own(&start_line(sequence));
     let mut notes = Notes::new(heap);
     for _ in 0..MOST_TICKS {
         if !host.module().control().busy() {

@@ -75,7 +75,7 @@ impl fmt::Display for Report {
         }
         if self.left_out > 0 {
             let more = self.left_out;
-            writeln!(f, "  and {more} phases more")?;
+            writeln!(f, "  phases not listed: {more}")?;
         }
         let ending = self.ending;
         let ticks = self.ticks;

@@ -1,9 +1,7 @@
 -- What a desk has gathered of a file, and what a sheet tells of it.
-use Rattle.std.specs.Prelude.{◌≡◌, ℕ, List, map, vec_items}
+use Rattle.std.specs.Prelude.{◌≡◌, ℕ, vec_items}
 use Rattle.lines.specs.Lines.{kept}
-use Rattle.store.specs.declared.directory.Block.{Block}
 use Rattle.host.specs.Hosts.{state_of}
-use Rattle.runs.specs.declared.report.Report.{Report}
 use Rattle.sheet.specs.declared.reading.Desk.{Desk}
 use Rattle.sheet.specs.declared.reading.Notes.{Notes}
 use Rattle.sheet.specs.declared.sheet.Sheet.{Sheet}
@@ -17,13 +15,6 @@ module _ {O : Type 0} where
 
 abbrev pub told : Sheet → Gathered
 told s = record { lines = lines_of (vec_items s.entries); held = kept s.held }
-
--- the numbers of the sequences that were run, and of those that the module has
-abbrev pub run_in : List Report → List ℕ
-run_in rs = map (λ r. r.sequence) rs
-
-abbrev pub numbers_in : List Block → List ℕ
-numbers_in bs = map (λ b. b.number) bs
 
 -- the shelf is that of the lines so far
 abbrev pub UpToDate : Notes → Type 0

@@ -1,5 +1,5 @@
 -- What passes between the host and the module while a file is sent.
-use Rattle.std.specs.Prelude.{ℕ, false, cond, List, [], ◌∷◌, ◌++◌, map, ◌==◌}
+use Rattle.std.specs.Prelude.{ℕ, ◌+◌, false, cond, length, List, [], ◌∷◌, ◌++◌, map, ◌==◌}
 use Rattle.lines.specs.Lines.{Kept, kept}
 use Rattle.law.specs.Events.{received}
 use Rattle.law.specs.History.{State, next}
@@ -10,15 +10,16 @@ use Rattle.sheet.specs.declared.entry.Entry.{Entry}
 use Rattle.sheet.specs.declared.entry.Fate.{Fate}
 use Rattle.sheet.specs.Fates.{fate_of}
 
--- a line, what becomes of it, and the reply
+-- a line with its number in the file, what becomes of it, and the reply
 pub record Exchange : Type 0 where
+  pub number : ℕ
   pub line : Kept
   pub fate : Fate
   pub reply : List ℕ
 
 -- the line that a module in this state holds, where it ends now
-abbrev pub exchange : (cycle : ℕ) → State (module_device cycle) → Exchange
-exchange cycle s = record { line = s.line; fate = fate_of (judged_line s.core.rest s.line); reply = ((module_device cycle).finish s.core s.line).1 }
+abbrev pub exchange : (cycle : ℕ) → ℕ → State (module_device cycle) → Exchange
+exchange cycle n s = record { number = n; line = s.line; fate = fate_of (judged_line s.core.rest s.line); reply = ((module_device cycle).finish s.core s.line).1 }
 
 -- the lines that have ended so far, and the module behind them
 pub record Sent (cycle : ℕ) : Type 0 where
@@ -33,7 +34,7 @@ fresh cycle s = record { exchanges = []; state = s }
 abbrev pub byte_sent : (cycle : ℕ) → Sent cycle → ℕ → Sent cycle
 byte_sent cycle t b =
     record {
-      exchanges = t.exchanges ++ cond (b == 13) (exchange cycle t.state ∷ []) [];
+      exchanges = t.exchanges ++ cond (b == 13) (exchange cycle (length t.exchanges + 1) t.state ∷ []) [];
       state = next (module_device cycle) t.state (received b false);
     }
 
@@ -43,7 +44,7 @@ bytes_sent cycle t (b ∷ bs) = bytes_sent cycle (byte_sent cycle t b) bs
 
 -- what the entries of a sheet tell
 abbrev pub exchange_of : Entry → Exchange
-exchange_of e = record { line = kept e.line; fate = e.fate; reply = reply_text e.reply }
+exchange_of e = record { number = e.number; line = kept e.line; fate = e.fate; reply = reply_text e.reply }
 
 abbrev pub exchanges_of : List Entry → List Exchange
 exchanges_of es = map exchange_of es

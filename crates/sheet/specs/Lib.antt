@@ -9,4 +9,5 @@ pub mod Reasons
 pub mod Shelves
 pub mod Sheets
 pub mod Steps
+pub mod Telling
 pub mod Verdicts

@@ -14,7 +14,7 @@ use Rattle.law.specs.Events.{Answer}
 use Rattle.law.specs.Events.Answer.{refused, reply, ticked, done}
 use Rattle.law.specs.History.{State}
 use Rattle.module.specs.Machine.{module_device}
-use Rattle.host.specs.Hosts.{set_anew, after_line, reply_to, line_to}
+use Rattle.host.specs.Hosts.{set_anew, after_own, own_reply}
 use Rattle.sheet.specs.declared.shelf.Meant.{Meant}
 use Rattle.sheet.specs.declared.verdict.ShelfPhase.{ShelfPhase}
 use Rattle.sheet.specs.Shelves.{position_of}
@@ -32,33 +32,37 @@ record_of (Err f) = None
 abbrev pub phase_told : List ℕ → Option Phase
 phase_told t = record_of (and_then (sp_form (words (unframed t), 1)) sp_values)
 
-abbrev pub text_of : Answer → List ℕ
-text_of (refused code) = []
-text_of (reply t) = t
-text_of (ticked step busy) = []
-text_of done = []
+abbrev pub reply_text : Answer → List ℕ
+reply_text (refused code) = []
+reply_text (reply t) = t
+reply_text (ticked step busy) = []
+reply_text done = []
 
 -- RS, the sequence and the phase, in two figures each
 abbrev pub rs_line : Position → List ℕ
 rs_line at = codes "RS " ++ figures_of 2 at.sequence ++ codes " " ++ figures_of 2 at.phase
 
--- what a module at the address a reads back, and the module then
-abbrev pub read_back : (cycle : ℕ) → ℕ → State (module_device cycle) → Position → Option Phase
-read_back cycle a s at = phase_told (text_of (reply_to cycle (line_to a (rs_line at)) s))
+-- what a module reads back, and the module then
+abbrev pub read_back : (cycle : ℕ) → State (module_device cycle) → Position → Option Phase
+read_back cycle s at = phase_told (reply_text (own_reply cycle (rs_line at) s))
 
-abbrev pub after_reading : (cycle : ℕ) → ℕ → State (module_device cycle) → Option Position → State (module_device cycle)
-after_reading cycle a s None = s
-after_reading cycle a s (Some at) = after_line cycle (line_to a (rs_line at)) s
+abbrev pub after_reading : (cycle : ℕ) → State (module_device cycle) → Option Position → State (module_device cycle)
+after_reading cycle s None = s
+after_reading cycle s (Some at) = after_own cycle (rs_line at) s
 
--- each phase that is meant is held against what the module reads back in its place, one after the other
-abbrev pub Compared : (cycle : ℕ) → ℕ → State (module_device cycle) → List Meant → List ShelfPhase → Type 0
-Compared cycle a s [] ps = ps ≡ []
-Compared cycle a s (m ∷ ms) [] = ⊥
-Compared cycle a s (m ∷ ms) (p ∷ ps) =
+-- each phase that is meant is held against what the module reads back in its place, one after the other; and the module then
+abbrev pub Compared : (cycle : ℕ) → State (module_device cycle) → List Meant → List ShelfPhase → Type 0
+Compared cycle s [] ps = ps ≡ []
+Compared cycle s (m ∷ ms) [] = ⊥
+Compared cycle s (m ∷ ms) (p ∷ ps) =
     (p.meant ≡ m)
-    × Judged m.record (option_and_then (read_back cycle a s) (position_of m)) p.verdict
-    × Compared cycle a (after_reading cycle a s (position_of m)) ms ps
+    × Judged m.record (option_and_then (read_back cycle s) (position_of m)) p.verdict
+    × Compared cycle (after_reading cycle s (position_of m)) ms ps
 
--- the module behind the file: its unfinished line is dropped, and what goes on is ended by GR
+abbrev pub after_shelf : (cycle : ℕ) → State (module_device cycle) → List Meant → State (module_device cycle)
+after_shelf cycle s [] = s
+after_shelf cycle s (m ∷ ms) = after_shelf cycle (after_reading cycle s (position_of m)) ms
+
+-- the module behind the file: its unfinished line is dropped, as where its address is set anew, and what goes on is ended by GR
 abbrev pub settled : (cycle : ℕ) → ℕ → State (module_device cycle) → State (module_device cycle)
-settled cycle a s = after_line cycle (line_to a (codes "GR")) (if is_ok (address_answer a) then set_anew cycle a s else s)
+settled cycle a s = after_own cycle (codes "GR") (if is_ok (address_answer a) then set_anew cycle a s else s)

@@ -9,7 +9,7 @@ is_stored (Stored p) = true
 is_stored (Otherwise p) = false
 is_stored Missing = false
 
--- the verdict where a line means one record and the store reads back another
+-- the verdict where a line means one record and the module reads back another
 abbrev pub Judged : Option Phase → Option Phase → Verdict → Type 0
 Judged None None v = v ≡ Missing
 Judged (Some m) None v = v ≡ Missing

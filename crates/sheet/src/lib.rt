@@ -1,4 +1,4 @@
-// The proof sheet of a sequence file: what became of each line, and the shelf held against the store.
+// The proof sheet of a sequence file: what became of each line, and the shelf held against the module, and the runs.
 #![tactic(auto)]
 
 mod address;

@@ -1,18 +1,17 @@
 // The reading of a file: its characters go to a module, and its lines to the shelf; then the phases are read back, and the sequences run.
-ghost use Rattle.std.specs.Prelude.{◌≡◌, [], ◌∷◌, ◌++◌, replicate, vec_items, IfOk, IfErr, OnOk};
-ghost use Rattle.lines.specs.Lines.{kept};
-ghost use Rattle.phases.specs.Phases.{blank};
-ghost use Rattle.history.specs.Histories.{started};
-ghost use Rattle.host.specs.Hosts.{state_of, after_line, line_to};
+ghost use Rattle.std.specs.Prelude.{◌≡◌, true, [], ◌∷◌, ◌++◌, nat_le, IfOk, IfErr, OnOk};
+ghost use Rattle.std.specs.Option.{option_and_then};
+ghost use Rattle.host.specs.Hosts.{state_of, after_own};
+ghost use Rattle.runs.specs.Runs.{RunInTurn};
 ghost use Rattle.sheet.specs.Characters.{AllText};
 ghost use Rattle.sheet.specs.Reasons.{Explained};
 ghost use Rattle.sheet.specs.Files.{nothing, gathered};
 ghost use Rattle.sheet.specs.Exchanges.{exchange_of, exchanges_of, fresh, byte_sent, bytes_sent};
-ghost use Rattle.std.specs.Option.{option_and_then};
-ghost use Rattle.sheet.specs.ReadBack.{rs_line, read_back, after_reading, Compared, settled};
+ghost use Rattle.sheet.specs.ReadBack.{rs_line, read_back, after_reading, Compared, after_shelf};
 ghost use Rattle.sheet.specs.Shelves.{position_of, stepped};
-ghost use Rattle.sheet.specs.Steps.{step_of, whole_shelf};
-ghost use Rattle.sheet.specs.Desks.{progress, told, run_in, numbers_in, UpToDate};
+ghost use Rattle.sheet.specs.Steps.{step_of};
+ghost use Rattle.sheet.specs.Desks.{progress, told, UpToDate};
+ghost use Rattle.sheet.specs.Telling.{numbers_in, Tells, file_sent};
 
 use crate::entry::{Entry, Fate};
 use crate::sheet::Sheet;
@@ -89,35 +88,35 @@ fn rs_line(at: Position) -> [u8; 8]
 }
 
 // The phase that a module reads back by RS.
-fn read_back<O: StepOutput + Drop>(host: &mut Host<O>, address: u8, at: Position) -> Option<Phase>
-    ensures found { result ≡ read_back O.CYCLE address (state_of O.CYCLE host.old) at }
-    ensures state { state_of O.CYCLE host.new ≡ after_line O.CYCLE (line_to address (rs_line at)) (state_of O.CYCLE host.old) }
+fn read_back<O: StepOutput + Drop>(host: &mut Host<O>, at: Position) -> Option<Phase>
+    ensures found { result ≡ read_back O.CYCLE (state_of O.CYCLE host.old) at }
+    ensures state { state_of O.CYCLE host.new ≡ after_own O.CYCLE (rs_line at) (state_of O.CYCLE host.old) }
 {
-    let reply = host.send_to(address, &rs_line(at));
+    let reply = host.send_own(&rs_line(at));
     told_phase(reply.text())
 }
 
 // What a module reads back in the place of a phase that is meant.
-fn found<O: StepOutput + Drop>(host: &mut Host<O>, address: u8, meant: &Meant) -> Option<Phase>
-    ensures found { result ≡ option_and_then (read_back O.CYCLE address (state_of O.CYCLE host.old)) (position_of meant.now) }
-    ensures state { state_of O.CYCLE host.new ≡ after_reading O.CYCLE address (state_of O.CYCLE host.old) (position_of meant.now) }
+fn found<O: StepOutput + Drop>(host: &mut Host<O>, meant: &Meant) -> Option<Phase>
+    ensures found { result ≡ option_and_then (read_back O.CYCLE (state_of O.CYCLE host.old)) (position_of meant.now) }
+    ensures state { state_of O.CYCLE host.new ≡ after_reading O.CYCLE (state_of O.CYCLE host.old) (position_of meant.now) }
 {
     let at = meant.position()?;
-    read_back(host, address, at)
+    read_back(host, at)
 }
 
 // The shelf against the module.
 fn compare<O: StepOutput + Drop>(
     heap: Global,
     host: &mut Host<O>,
-    address: u8,
     shelf: &[Meant],
 ) -> Result<Vec<ShelfPhase>, AllocError>
-    ensures { IfOk result (λ v. Compared O.CYCLE address (state_of O.CYCLE host.old) shelf.now v.items) }
+    ensures compared { IfOk result (λ v. Compared O.CYCLE (state_of O.CYCLE host.old) shelf.now v.items) }
+    ensures state { OnOk result (state_of O.CYCLE host.new ≡ after_shelf O.CYCLE (state_of O.CYCLE host.old) shelf.now) }
 {
     let mut compared = Vec::new(heap);
     for meant in shelf {
-        let found = found(host, address, meant);
+        let found = found(host, meant);
         compared.push(ShelfPhase {
             meant: *meant,
             verdict: Verdict::of(meant.record, found),
@@ -130,14 +129,13 @@ fn compare<O: StepOutput + Drop>(
 fn run_all<O: StepOutput + Drop>(
     heap: Global,
     host: &mut Host<O>,
-    address: u8,
     blocks: &[Block],
 ) -> Result<Vec<Report>, AllocError>
-    ensures { IfOk result (λ v. run_in v.items ≡ numbers_in blocks.now) }
+    ensures { IfOk result (λ v. RunInTurn O.CYCLE (state_of O.CYCLE host.old) (numbers_in blocks.now) v.items) }
 {
     let mut reports = Vec::new(heap);
     for block in blocks {
-        reports.push(run(heap, host, address, block.number)?)?;
+        reports.push(run(heap, host, block.number)?)?;
     }
     Ok(reports)
 }
@@ -149,27 +147,25 @@ impl<O: StepOutput + Drop> Desk<O> {
         ensures shelf { OnOk result (UpToDate self.old.notes → UpToDate self.new.notes) }
         ensures address { self.new.notes.address ≡ self.old.notes.address }
     {
+        if byte != LINE_END {
+            let _ = self.host.character(byte);
+            return Ok(());
+        }
+        let number = self.notes.entries.len() + 1;
         let line = self.host.module().held();
         let fate = Fate::of(self.host.module().control().judge(&line));
         let reply = self.host.character(byte);
-        if byte == LINE_END {
-            let number = self.notes.entries.len() + 1;
-            self.notes.add(Entry {
-                number,
-                line,
-                fate,
-                reply,
-            })?;
-        }
-        Ok(())
+        self.notes.add(Entry {
+            number,
+            line,
+            fate,
+            reply,
+        })
     }
 
     // The sheet at the file's end, where an unfinished line counts for the shelf, and the module drops it.
-    fn finish(self, heap: Global, address: u8) -> Result<Sheet, AllocError>
-        ensures exchanges { IfOk result (λ s. exchanges_of (vec_items s.entries) ≡ (progress O.CYCLE self).exchanges) }
-        ensures held { IfOk result (λ s. kept s.held ≡ (state_of O.CYCLE self.host).line) }
-        ensures shelf { UpToDate self.notes → IfOk result (λ s. Compared O.CYCLE address (settled O.CYCLE address (state_of O.CYCLE self.host)) (whole_shelf self.notes.address s) (vec_items s.shelf)) }
-        ensures runs { IfOk result (λ s. run_in (vec_items s.runs) ≡ numbers_in (state_of O.CYCLE self.host).core.rest.control.blocks) }
+    fn finish(self, heap: Global) -> Result<Sheet, AllocError>
+        ensures { UpToDate self.notes → IfOk result (λ s. Tells O.CYCLE self.notes.address (progress O.CYCLE self) s) }
     {
         let Desk {
             mut host,
@@ -179,11 +175,15 @@ impl<O: StepOutput + Drop> Desk<O> {
         let busy = host.module().control().busy();
         let directory = host.module().control().directory;
         notes.step(&held)?;
-        let Notes { entries, shelf, .. } = notes;
+        let Notes {
+            address,
+            entries,
+            shelf,
+        } = notes;
         let _ = host.set_address(address);
-        host.send_to(address, b"GR");
-        let shelf = compare(heap, &mut host, address, shelf.as_slice())?;
-        let runs = run_all(heap, &mut host, address, directory.blocks())?;
+        host.send_own(b"GR");
+        let shelf = compare(heap, &mut host, shelf.as_slice())?;
+        let runs = run_all(heap, &mut host, directory.blocks())?;
         Ok(Sheet {
             entries,
             held,
@@ -201,10 +201,7 @@ fn read_text<O: StepOutput + Drop>(
     address: u8,
     bytes: &[u8],
 ) -> Result<Sheet, AllocError>
-    ensures exchanges { IfOk result (λ s. exchanges_of (vec_items s.entries) ≡ (bytes_sent O.CYCLE (fresh O.CYCLE (state_of O.CYCLE host)) bytes.now).exchanges) }
-    ensures held { IfOk result (λ s. kept s.held ≡ (bytes_sent O.CYCLE (fresh O.CYCLE (state_of O.CYCLE host)) bytes.now).state.line) }
-    ensures shelf { IfOk result (λ s. Compared O.CYCLE address (settled O.CYCLE address (bytes_sent O.CYCLE (fresh O.CYCLE (state_of O.CYCLE host)) bytes.now).state) (whole_shelf address s) (vec_items s.shelf)) }
-    ensures runs { IfOk result (λ s. run_in (vec_items s.runs) ≡ numbers_in (bytes_sent O.CYCLE (fresh O.CYCLE (state_of O.CYCLE host)) bytes.now).state.core.rest.control.blocks) }
+    ensures { IfOk result (λ s. Tells O.CYCLE address (bytes_sent O.CYCLE (fresh O.CYCLE (state_of O.CYCLE host)) bytes.now) s) }
 {
     let mut desk = Desk {
         host,
@@ -213,7 +210,7 @@ fn read_text<O: StepOutput + Drop>(
     for byte in bytes {
         desk.take(*byte)?;
     }
-    desk.finish(heap, address)
+    desk.finish(heap)
 }
 
 // The proof sheet of a file's bytes at a new module of the address over the output. It tells every line of the file, and the
@@ -225,11 +222,10 @@ pub fn proofread<O: StepOutput + Drop>(
     bytes: &[u8],
 ) -> Result<Sheet, Unreadable>
     ensures text { OnOk result (AllText bytes.now) }
-    ensures stray { IfErr result (λ e. Explained bytes.now e) }
-    ensures exchanges { IfOk result (λ s. exchanges_of (vec_items s.entries) ≡ (bytes_sent O.CYCLE (fresh O.CYCLE (started O.CYCLE address (O.meaning output) (replicate 414 blank))) bytes.now).exchanges) }
+    ensures address { OnOk result (nat_le address 63 ≡ true) }
+    ensures refused { IfErr result (λ e. Explained address bytes.now e) }
     ensures lines { IfOk result (λ s. told s ≡ gathered nothing bytes.now) }
-    ensures shelf { IfOk result (λ s. Compared O.CYCLE address (settled O.CYCLE address (bytes_sent O.CYCLE (fresh O.CYCLE (started O.CYCLE address (O.meaning output) (replicate 414 blank))) bytes.now).state) (whole_shelf address s) (vec_items s.shelf)) }
-    ensures runs { IfOk result (λ s. run_in (vec_items s.runs) ≡ numbers_in (bytes_sent O.CYCLE (fresh O.CYCLE (started O.CYCLE address (O.meaning output) (replicate 414 blank))) bytes.now).state.core.rest.control.blocks) }
+    ensures tells { IfOk result (λ s. Tells O.CYCLE address (file_sent O.CYCLE address (O.meaning output) bytes.now) s) }
 {
     let memory = [Phase::BLANK; 414];
     let Ok(host) = Host::new(output, address, memory) else {

@@ -76,9 +76,9 @@ impl Sheet {
         let stored = self.stored();
         let meant = self.meant();
         let faulty = self.faulty_runs();
-        writeln!(f, "{refused} lines refused")?;
+        writeln!(f, "lines refused: {refused}")?;
         writeln!(f, "{stored} of {meant} phases stored as on the shelf")?;
-        writeln!(f, "{faulty} runs ended by a fault")
+        writeln!(f, "runs ended by a fault: {faulty}")
     }
 
     fn write_entries<W: fmt::Write>(&self, f: &mut fmt::Formatter<W>) -> fmt::Result {

@@ -1,4 +1,4 @@
-// The verdict on a phase of the shelf: what the store reads back in its place.
+// The verdict on a phase of the shelf: what the module reads back in its place.
 ghost use Rattle.std.specs.Prelude.{◌≡◌};
 ghost use Rattle.sheet.specs.Verdicts.{Judged, is_stored};
 
@@ -7,7 +7,7 @@ use crate::text::{ReadBack, Text};
 use phases::{Phase, Position};
 use std::fmt;
 
-// Whether the store reads back what the line means.
+// Whether the module reads back what the line means.
 // An Option of a Result would hold a phase on both sides, which only a name tells apart.
 #[derive(Clone, Copy)]
 pub enum Verdict {
@@ -24,7 +24,7 @@ pub struct ShelfPhase {
 }
 
 impl Verdict {
-    // The verdict where a line means one record, and the store reads back `found`.
+    // The verdict where a line means one record, and the module reads back `found`.
     pub(crate) fn of(meant: Option<Phase>, found: Option<Phase>) -> Verdict
         ensures { Judged meant found result }
     {
@@ -104,7 +104,7 @@ impl fmt::Display for ShelfPhase {
             Verdict::Otherwise(record) => {
                 write!(f, "  STORED OTHERWISE\n    the shelf:  ")?;
                 self.meant.write_meant(f)?;
-                write!(f, "    the store:  ")?;
+                write!(f, "    the module: ")?;
                 self.meant.write_record(f, record)
             }
             Verdict::Missing => {

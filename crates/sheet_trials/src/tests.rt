@@ -1,5 +1,5 @@
 // Short files and their proof sheets, at a module over full steps.
-use outputs::FullStepCoils;
+use outputs::{FullStepCoils, HalfStepCoils, PulseOutput, StepOutput};
 use runs::Ending;
 use sheet::{Sheet, Unreadable, Verdict, proofread};
 use std::alloc::Global;
@@ -50,9 +50,9 @@ run of sequence 03
   ended where sequence 03 has no phase 02 after 37574 ticks
   THE TABLE STANDS -800 STEPS FROM THE ORIGIN
 
-0 lines refused
+lines refused: 0
 1 of 2 phases stored as on the shelf
-0 runs ended by a fault
+runs ended by a fault: 0
 "
     );
     Ok(())
@@ -120,9 +120,9 @@ line   6  05RX     05EE 0
 
 the shelf against the module
 
-2 lines refused
+lines refused: 2
 0 of 0 phases stored as on the shelf
-0 runs ended by a fault
+runs ended by a fault: 0
 "
     );
     Ok(())
@@ -181,4 +181,106 @@ fn busy_file_is_told(rt: HostRuntime) -> Result<(), Fail> {
         },
         None => Err(Fail::new("no sequence was run")),
     }
+}
+
+// A busy module refuses the second line for phase 1, which the shelf has all the same. The wait of 1 ms ends in tick 41.
+#[test]
+fn busy_file_is_told_in_words(rt: HostRuntime) -> Result<(), Fail> {
+    let file = b"00SN 1 1\r00SP 1 1 S+ NW C1\r00SS 1\r00SP 1 1 S+ NW C2\r";
+    let told = sheet_of(rt.alloc(), 0, file)?.to_string(rt.alloc())?;
+    assert_eq!(rt;
+        told.as_str(),
+        "line   1  00SN 1 1           06h 11h  accepted
+line   2  00SP 1 1 S+ NW C1  06h 11h  accepted
+line   3  00SS 1             06h 11h  accepted
+line   4  00SP 1 1 S+ NW C2  15h 11h  refused: the module is busy (7) at the state
+
+THE FILE LEAVES THE MODULE BUSY: what went on was cut off before the phases were read back
+
+the shelf against the module
+sequence 01  phase 01  STORED OTHERWISE
+    the shelf:  01 01 S+ NW C+0000002 NL XX NE XXXXXXXX NS XX NO XX
+    the module: 01 01 S+ NW C+0000001 NL XX NE XXXXXXXX NS XX NO XX
+
+run of sequence 01
+  phase       tick       at ms      for ms      steps    counter  outputs
+  01 01          1       0.025       1.025         +0         +0  FF
+  ended where sequence 01 has no phase 02 after 42 ticks
+  the table stands at the origin
+
+lines refused: 1
+0 of 1 phases stored as on the shelf
+runs ended by a fault: 0
+"
+    );
+    Ok(())
+}
+
+// Sequence 1 ends by fault 3, and sequence 2 after it by 54, with the outputs at FFh though the file set them to 00h.
+#[test]
+fn runs_do_not_depend_on_those_before(rt: HostRuntime) -> Result<(), Fail> {
+    let file =
+        b"00GL 00\r00SN 1 1\r00SP 1 1 S+ NZ C0 NL 9\r00SN 2 1\r00SP 2 1 S+ NZ C0 NS 54\r00SP 100 1 S+ NZ C0\r";
+    let told = sheet_of(rt.alloc(), 0, file)?.to_string(rt.alloc())?;
+    let end =
+        "sequence 02  phase 01  stored      02 01 S+ NZ C+0000000 NL XX NE XXXXXXXX NS 54 NO XX
+sequence --  phase 01  NOT STORED  00SP 100 1 S+ NZ C0
+
+run of sequence 01
+  phase       tick       at ms      for ms      steps    counter  outputs
+  01 01          1       0.025       0.025         +0         +0  FF
+  ENDED BY FAULT 3 at the run after 1 ticks
+  the table stands at the origin
+
+run of sequence 02
+  phase       tick       at ms      for ms      steps    counter  outputs
+  02 01          1       0.025       0.025         +0         +0  FF
+  ended by the stop, NS 54 after 1 ticks
+  the table stands at the origin
+
+lines refused: 1
+2 of 3 phases stored as on the shelf
+runs ended by a fault: 1
+";
+    assert!(rt; told.as_str().ends_with(end));
+    Ok(())
+}
+
+fn version_at<O: StepOutput + Drop>(heap: Global, output: O) -> Result<String, Fail> {
+    Ok(proofread(heap, output, 7, b"07RV\r")?.to_string(heap)?)
+}
+
+// RV tells the cycle of the step output.
+#[test]
+fn each_output_tells_its_cycle(rt: HostRuntime) -> Result<(), Fail> {
+    let full = version_at(rt.alloc(), FullStepCoils::new())?;
+    let half = version_at(rt.alloc(), HalfStepCoils::new())?;
+    let pulse = version_at(rt.alloc(), PulseOutput::new())?;
+    assert!(rt;
+        full.as_str()
+            .starts_with("line   1  07RV  07EV 10 00000004\n")
+    );
+    assert!(rt;
+        half.as_str()
+            .starts_with("line   1  07RV  07EV 10 00000008\n")
+    );
+    assert!(rt;
+        pulse
+            .as_str()
+            .starts_with("line   1  07RV  07EV 10 00000001\n")
+    );
+    Ok(())
+}
+
+// No sheet of nothing, of line feeds alone, or at an address that no module has.
+#[test]
+fn no_sheet(rt: HostRuntime) {
+    assert!(rt; matches!(sheet_of(rt.alloc(), 0, b""), Err(Unreadable::Empty)));
+    assert!(rt; matches!(sheet_of(rt.alloc(), 0, b"\n\n"), Err(Unreadable::Empty)));
+    assert!(rt;
+        matches!(
+            sheet_of(rt.alloc(), 64, b"00SE 1\r"),
+            Err(Unreadable::WrongAddress)
+        )
+    );
 }

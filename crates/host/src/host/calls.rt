@@ -6,7 +6,7 @@ ghost use Rattle.law.specs.Events.Answer.{reply as replied, ticked};
 ghost use Rattle.history.specs.Histories.{started as begun, told};
 ghost use Rattle.lines.specs.Addresses.{address_answer};
 ghost use Rattle.replies.specs.Replies.{figures_of};
-ghost use Rattle.host.specs.Hosts.{state_of, next_of, answer_of, set_anew, after_line, reply_to, line_to, phase_in};
+ghost use Rattle.host.specs.Hosts.{state_of, next_of, answer_of, set_anew, after_line, reply_to, after_own, own_reply, phase_in};
 
 use super::Host;
 use faults::Fault;
@@ -79,13 +79,13 @@ impl<O: StepOutput> Host<O> {
         self.character(LINE_END)
     }
 
-    // Sends a line to the module of an address: its two figures, then the text.
+    // Sends a line for the module itself: the two figures of its address, then the text.
     #[tactic(auto, unfolding(replies::specs::Replies::figures_of))]
-    pub fn send_to(&mut self, address: u8, text: &[u8]) -> Reply
-        ensures state { state_of O.CYCLE self.new ≡ after_line O.CYCLE (line_to address text.now) (state_of O.CYCLE self.old) }
-        ensures reply { replied (told result) ≡ reply_to O.CYCLE (line_to address text.now) (state_of O.CYCLE self.old) }
+    pub fn send_own(&mut self, text: &[u8]) -> Reply
+        ensures state { state_of O.CYCLE self.new ≡ after_own O.CYCLE text.now (state_of O.CYCLE self.old) }
+        ensures reply { replied (told result) ≡ own_reply O.CYCLE text.now (state_of O.CYCLE self.old) }
     {
-        let [tens, units] = two_figures(address);
+        let [tens, units] = two_figures(self.module.control().address);
         let _ = self.character(tens);
         let _ = self.character(units);
         self.send(text)
@@ -111,13 +111,6 @@ impl<O: StepOutput> Host<O> {
         ensures { result ≡ phase_in O.CYCLE (state_of O.CYCLE self.now) at }
     {
         let directory = &self.module.control().directory;
-        directory.read(self.memory(), at).unwrap_or(None)
-    }
-
-    // The phase memory.
-    pub fn memory(&self) -> &[Phase]
-        ensures { result.now ≡ self.now.memory }
-    {
-        &self.memory
+        directory.read(&self.memory, at).unwrap_or(None)
     }
 }

@@ -6,12 +6,11 @@ use Rattle.sheet.specs.declared.verdict.ShelfPhase.{ShelfPhase}
 use Rattle.sheet.specs.ReadBack.{Compared}
 use Rattle.sheet.proofs.reading.compare.Goals as goal
 
-pub returns : goal.returns
-returns g c =
+pub returns-clause-compared : goal.returns-clause-compared
+returns-clause-compared g c =
     let y = g.O.StepOutput.CYCLE in
-    let a = c.args.address in
     let ms = c.args.shelf.now in
-    let P : List ShelfPhase → Type 0 = λ ps. Compared y a (state_of y c.args.host.now) ms ps in
-    let Q : List Meant → Type 0 = λ rest. Compared y a (state_of y c.loop-meant.host) rest [] in
+    let P : List ShelfPhase → Type 0 = λ ps. Compared y (state_of y c.args.host.now) ms ps in
+    let Q : List Meant → Type 0 = λ rest. Compared y (state_of y c.loop-meant.host) rest [] in
     let over : drop c.loop-meant.meant-index ms ≡ [] = drop_all c.loop-meant.meant-index ms (omega arith) in
-    subst P (append-nil c.loop-meant.compared.items) (c.loop-meant.invariant [] (subst Q (sym over) refl))
+    subst P (append-nil c.loop-meant.compared.items) (c.loop-meant.invariant.0 [] (subst Q (sym over) refl))

@@ -1,19 +1,17 @@
-use Rattle.std.proofs.Common.{◌≡◌, ℕ, [], drop, vec_items, IfOk, subst, sym, ap, ◌∙◌, arith}
+use Rattle.std.proofs.Common.{◌≡◌, ℕ, [], drop, IfOk, subst, sym, ap, ◌∙◌, arith}
 use Rattle.std.proofs.lemmas.List.{drop_all}
 use Rattle.host.specs.Hosts.{state_of}
 use Rattle.sheet.specs.Exchanges.{Sent, fresh, bytes_sent}
 use Rattle.sheet.specs.Desks.{progress}
-use Rattle.sheet.specs.Steps.{whole_shelf}
-use Rattle.sheet.specs.ReadBack.{Compared, settled}
+use Rattle.sheet.specs.Telling.{Tells}
 use Rattle.sheet.proofs.reading.read_text.Goals as goal
 
-pub returns-clause-shelf : goal.returns-clause-shelf
-returns-clause-shelf g c =
+pub returns : goal.returns
+returns g c =
     let y = g.O.StepOutput.CYCLE in
-    let a = c.args.address in
     let bs = c.args.bytes.now in
     let over : drop c.loop-byte.byte-index bs ≡ [] = drop_all c.loop-byte.byte-index bs (omega arith) in
     let end : progress y c.loop-byte.desk ≡ bytes_sent y (fresh y (state_of y c.args.host)) bs = sym (ap (bytes_sent y (progress y c.loop-byte.desk)) over) ∙ c.loop-byte.invariant.0 in
-    let P : Sent y → Type 0 = λ t. IfOk c.finish.result (λ s. Compared y a (settled y a t.state) (whole_shelf a s) (vec_items s.shelf)) in
-    let Q : ℕ → Type 0 = λ n. IfOk c.finish.result (λ s. Compared y a (settled y a (progress y c.loop-byte.desk).state) (whole_shelf n s) (vec_items s.shelf)) in
-    subst P end (subst Q c.loop-byte.invariant.2 (c.finish.ensures.shelf c.loop-byte.invariant.1))
+    let P : Sent y → Type 0 = λ t. IfOk c.finish.result (λ s. Tells y c.args.address t s) in
+    let Q : ℕ → Type 0 = λ a. IfOk c.finish.result (λ s. Tells y a (progress y c.loop-byte.desk) s) in
+    subst P end (subst Q c.loop-byte.invariant.2 (c.finish.ensures c.loop-byte.invariant.1))
