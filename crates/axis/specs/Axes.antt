@@ -1,9 +1,9 @@
 -- The counter, the place and the power of an axis, and what each call does to them.
-use Rattle.std.specs.Prelude.{ℕ, Bool, false, cond, ℤ, pos, negsuc, ◌+ℤ◌, ◌-ℤ◌}
-use Rattle.senses.specs.declared.Sense.{Sense}
-use Rattle.senses.specs.declared.Sense.TheVariants.{Forward, Back}
+use Rattle.std.specs.Prelude.{ℕ, Bool, false, cond, ℤ, pos, ◌+ℤ◌, ◌-ℤ◌}
+use Rattle.steps.specs.declared.direction.Direction.{Direction}
+use Rattle.steps.specs.Directions.{one_step}
 use Rattle.outputs.specs.Meaning.{Meaning, moved}
-use Rattle.axis.specs.Wrap.{wrapped24}
+use Rattle.steps.specs.Wrap.{wrapped24}
 
 pub record AxisState : Type 0 where
   pub counter : ℤ
@@ -19,30 +19,24 @@ pub record AxisView (O : Type 0) : Type 0 where
 abbrev pub axis_view : {O : Type 0} → Meaning → ℤ → O → AxisView O
 axis_view m counter output = record { state = record { counter = counter; place = m.place; power = m.power }; output = output }
 
--- A step as a number: +1 forward, -1 back.
-abbrev pub one_step : Sense → ℤ
-one_step Forward = pos 1
-one_step Back = negsuc 0
-
 -- A new axis over an output: counter 0, the output's place, power off.
 abbrev pub new_axis : Meaning → AxisState
 new_axis m = record { counter = pos 0; place = m.place; power = false }
 
 -- With power on a step moves the counter, wrapped to 24 bits, and the place; with power off nothing changes.
-abbrev pub axis_stepped : Sense → AxisState → AxisState
-axis_stepped s a = record {
+abbrev pub axis_stepped : Direction → AxisState → AxisState
+axis_stepped s a = record a {
   counter = cond a.power (wrapped24 (a.counter +ℤ one_step s)) a.counter;
   place = cond a.power (moved s a.place) a.place;
-  power = a.power;
 }
 
 -- The counter is set; place and power stay.
 abbrev pub with_counter : ℤ → AxisState → AxisState
-with_counter n a = record { counter = n; place = a.place; power = a.power }
+with_counter n a = record a { counter = n }
 
 -- Power is switched on or off; counter and place stay.
 abbrev pub with_power : Bool → AxisState → AxisState
-with_power on a = record { counter = a.counter; place = a.place; power = on }
+with_power on a = record a { power = on }
 
 -- The counter less the place, wrapped to 24 bits: what no step changes, since both move alike.
 abbrev pub offset : AxisState → ℤ

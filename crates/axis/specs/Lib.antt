@@ -1,2 +1,1 @@
-pub mod Wrap
 pub mod Axes

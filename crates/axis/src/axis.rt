@@ -1,12 +1,11 @@
-// The counter and the step output of an axis.
+//! The counter and the step output of an axis.
 use outputs::StepOutput;
 use std::marker::Model;
 
 mod calls;
 mod readings;
 
-pub use calls::signed;
-
+/// A step output with its counter, which counts each step that is made.
 #[derive(Drop)]
 pub struct Axis<O: StepOutput> {
     output: O,

@@ -1,8 +1,6 @@
-// One axis: a counter beside a step output, which count and step together.
+//! One axis: a counter beside a step output, which count and step together.
 #![tactic(auto)]
 
 pub mod axis;
-#[cfg(test)]
-mod tests;
 
-pub use axis::{Axis, signed};
+pub use axis::Axis;

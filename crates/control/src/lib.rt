@@ -1,12 +1,12 @@
-// What a module does without its step output: settings, sequences, movements and runs.
+//! What a module does without its step output: settings, sequences, movements and runs.
 #![tactic(auto)]
 
 mod activity;
+mod change;
 mod control;
 mod obey;
-mod settings;
 mod ticks;
 
 pub use activity::Activity;
-pub use control::{Change, Control};
-pub use settings::Settings;
+pub use change::{Answer, Change};
+pub use control::Control;

@@ -1,61 +1,23 @@
-// What an accepted order does.
-ghost use Rattle.std.specs.Prelude.{◌≡◌, Some};
+//! What an accepted order does.
+ghost use Rattle.std.specs.Prelude.{◌≡◌, ◌<◌, Some, Ok, length, slice_set};
 ghost use Rattle.engine.specs.Ticks.{started};
-ghost use Rattle.control.specs.States.{state, doing_of, running};
-ghost use Rattle.control.specs.Obeyed.{moves_to, slowed, cut_off, restarted, choice_without, acted, stored, stored_records, obeyed, order_change, restart_change};
+ghost use Rattle.motion.specs.Values.{values};
+ghost use Rattle.steps.specs.declared.power.Power.TheVariants.{On, Off};
+ghost use Rattle.store.specs.Blocks.{reserved};
+ghost use Rattle.store.specs.Records.{appended, blanked, create_answer, erased_records};
+ghost use Rattle.orders.specs.Judged.{Shown};
+ghost use Rattle.control.specs.States.{state, store_of, situation, activity_of, running, with_settings, with_values, with_activity};
+ghost use Rattle.control.specs.Obeyed.{accepted, power_set, moves_to, slowed, cut_off, restarted, choice_without, erased, obeyed, restart_change};
 
 use crate::activity::Activity;
-use crate::control::{Change, Control};
-use engine::{Power, Run};
-use motion::{Distance, Movement};
+use crate::change::{Answer, Change};
+use crate::control::Control;
+use engine::Run;
+use motion::{Distance, Movement, Parameters, Settings};
 use orders::Order;
 use phases::Phase;
-use senses::Sense;
-
-// What an order does to the axis.
-fn change(order: Order, chosen: Option<u8>) -> Change
-    ensures { result ≡ order_change chosen order }
-{
-    match order {
-        Order::ZeroCounter => Change {
-            counter: Some(0),
-            ..Change::default()
-        },
-        Order::SetCounter(value) => Change {
-            counter: Some(value),
-            ..Change::default()
-        },
-        Order::Move
-        | Order::MoveToOrigin
-        | Order::MoveTo(_)
-        | Order::Start { .. }
-        | Order::PowerOn => Change {
-            power: Some(Power::On),
-            ..Change::default()
-        },
-        Order::PowerOff => Change {
-            power: Some(Power::Off),
-            ..Change::default()
-        },
-        Order::Restart => restart_change(chosen),
-        _ => Change::default(),
-    }
-}
-
-// Power-up and MR set the counter to 0 and cut power; a chosen sequence starts and switches it on.
-fn restart_change(chosen: Option<u8>) -> Change
-    ensures { result ≡ restart_change chosen }
-{
-    let power = if chosen.is_some() {
-        Power::On
-    } else {
-        Power::Off
-    };
-    Change {
-        counter: Some(0),
-        power: Some(power),
-    }
-}
+use steps::{Direction, Power};
+use store::Block;
 
 // Erasing the chosen sequence, or all of them, drops the choice.
 fn choice_without(chosen: Option<u8>, erased: Option<u8>) -> Option<u8>
@@ -67,120 +29,174 @@ fn choice_without(chosen: Option<u8>, erased: Option<u8>) -> Option<u8>
 
 // A sequence that starts.
 fn started(number: u8) -> Activity
-    ensures { doing_of (Some result) ≡ running (started number) }
+    ensures { activity_of (Some result) ≡ running (started number) }
 {
     Activity::Running(Run::new(number))
 }
 
+fn write(records: &mut [Phase], index: usize, phase: Phase) -> Change
+    requires { index < length records.old }
+    ensures change { result ≡ accepted }
+    ensures records { records.new ≡ slice_set records.old index phase }
+{
+    records[index] = phase;
+    Change::accepted()
+}
+
 impl Control {
+    fn set_parameters(&mut self, parameters: Parameters) -> Change
+        ensures change { result ≡ accepted }
+        ensures state { state self.new ≡ with_values (state self.old) (values parameters) }
+    {
+        self.settings.parameters = parameters;
+        Change::accepted()
+    }
+
+    fn set_distance(&mut self, steps: u32) -> Change
+        ensures change { result ≡ accepted }
+        ensures state { state self.new ≡ with_settings (state self.old) (record (state self.old).settings { distance = steps }) }
+    {
+        self.settings.distance = steps;
+        Change::accepted()
+    }
+
+    fn set_direction(&mut self, direction: Direction) -> Change
+        ensures change { result ≡ accepted }
+        ensures state { state self.new ≡ with_settings (state self.old) (record (state self.old).settings { direction = direction }) }
+    {
+        self.settings.direction = direction;
+        Change::accepted()
+    }
+
+    fn set_outputs(&mut self, outputs: u8) -> Change
+        ensures change { result ≡ accepted }
+        ensures state { state self.new ≡ record (state self.old) { outputs = outputs } }
+    {
+        self.outputs = outputs;
+        Change::accepted()
+    }
+
     // Starts a direct movement; one of zero steps has ended at once.
-    fn start_movement(&mut self, distance: Distance)
-        ensures { state self.new ≡ moves_to (state self.old) distance }
+    fn start_movement(&mut self, distance: Distance) -> Change
+        ensures change { result ≡ power_set On }
+        ensures state { state self.new ≡ moves_to (state self.old) distance }
     {
         let movement = Movement::new(self.settings.parameters, None, distance, false);
         self.go_on(movement.map(Activity::Moving));
+        Change::power(Power::On)
     }
 
-    fn slow_stop(&mut self)
-        ensures { state self.new ≡ slowed (state self.old) (state self.old).doing }
+    fn slow_stop(&mut self) -> Change
+        ensures change { result ≡ accepted }
+        ensures state { state self.new ≡ slowed (state self.old) (state self.old).activity }
     {
         match self.activity {
             None => {}
             Some(Activity::Moving(movement)) => self.go_on(movement.stop().map(Activity::Moving)),
-            Some(Activity::Running(run)) => self.go_on(run.stop().rest.map(Activity::Running)),
+            Some(Activity::Running(run)) => self.go_on(run.stop().map(Activity::Running)),
         }
+        Change::accepted()
     }
 
     // GR ends what goes on.
-    fn power_off(&mut self)
-        ensures { state self.new ≡ cut_off (state self.old) (state self.old).doing }
+    fn power_off(&mut self) -> Change
+        ensures change { result ≡ power_set Off }
+        ensures state { state self.new ≡ cut_off (state self.old) (state self.old).activity }
     {
         if self.activity.is_some() {
             self.go_on(None);
         }
+        Change::power(Power::Off)
     }
 
-    // All stops, and the chosen sequence starts.
-    fn restart(&mut self)
-        ensures { state self.new ≡ restarted (state self.old) (state self.old).chosen }
+    fn create(&mut self, block: Block, records: &mut [Phase]) -> Change
+        requires length { length records.old ≡ 414 }
+        requires accepted { create_answer (state self.old).blocks block.number block.reserve ≡ Ok tt }
+        ensures change { result ≡ accepted }
+        ensures state { state self.new ≡ record (state self.old) { blocks = appended (state self.old).blocks block.number block.reserve } }
+        ensures records { records.new ≡ blanked (reserved (state self.old).blocks) block.reserve records.old }
     {
-        self.outputs = 0xFF;
-        self.activity = self.chosen.map(started);
+        self.directory.create(records, block);
+        Change::accepted()
     }
 
-    // Power-up: the same as MR.
-    pub fn power_up(&mut self) -> Change
+    fn erase(&mut self, sequence: Option<u8>, records: &mut [Phase]) -> Change
+        requires { length records.old ≡ 414 }
+        ensures change { result ≡ accepted }
+        ensures state { state self.new ≡ erased (state self.old) sequence }
+        ensures records { records.new ≡ erased_records (state self.old).blocks sequence records.old }
+    {
+        self.directory.erase(records, sequence);
+        self.chosen = choice_without(self.chosen, sequence);
+        Change::accepted()
+    }
+
+    fn choose(&mut self, number: u8) -> Change
+        ensures change { result ≡ accepted }
+        ensures state { state self.new ≡ record (state self.old) { chosen = Some number } }
+    {
+        self.chosen = Some(number);
+        Change::accepted()
+    }
+
+    fn start(&mut self, number: u8) -> Change
+        ensures change { result ≡ power_set On }
+        ensures state { state self.new ≡ with_activity (state self.old) (running (started number)) }
+    {
+        self.activity = Some(started(number));
+        Change::power(Power::On)
+    }
+
+    /// Power-up and MR: all stops, and the chosen sequence starts.
+    pub fn restart(&mut self) -> Change
         ensures change { result ≡ restart_change (state self.old).chosen }
         ensures state { state self.new ≡ restarted (state self.old) (state self.old).chosen }
     {
-        let change = restart_change(self.chosen);
-        self.restart();
-        change
+        self.outputs = 0xFF;
+        self.activity = self.chosen.map(started);
+        Change::restart(self.chosen)
     }
 
-    // The settings, the outputs, the choice, movements and runs.
-    fn act(&mut self, order: Order, counter: i32)
-        ensures { state self.new ≡ acted (state self.old) counter order }
+    /// Does what an accepted order says, and answers what it does outside. The counter is the one before the order.
+    pub fn obey(&mut self, order: Order, records: &mut [Phase], counter: i32) -> Change
+        requires length { length records.old ≡ 414 }
+        requires shown { Shown (situation (state self.old)) (store_of (state self.old) records.old) order }
+        ensures change { result ≡ (obeyed (state self.old) records.old counter order).change }
+        ensures state { state self.new ≡ (obeyed (state self.old) records.old counter order).state }
+        ensures records { records.new ≡ (obeyed (state self.old) records.old counter order).records }
     {
-        let now = self.settings.parameters;
+        let Settings {
+            parameters,
+            distance: steps,
+            direction,
+        } = self.settings;
         match order {
-            Order::StartSpeed(n) => self
-                .settings
-                .set_parameters(n, now.plateau_speed(), now.slope()),
-            Order::PlateauSpeed(n) => self
-                .settings
-                .set_parameters(now.start_speed(), n, now.slope()),
-            Order::Slope(n) => self
-                .settings
-                .set_parameters(now.start_speed(), now.plateau_speed(), n),
-            Order::Distance(n) => self.settings.distance = n,
-            Order::Forward => self.settings.direction = Sense::Forward,
-            Order::Back => self.settings.direction = Sense::Back,
-            Order::Move => self.start_movement(Distance {
-                sense: self.settings.direction,
-                steps: self.settings.distance,
-            }),
+            Order::StartSpeed(speed) => self.set_parameters(parameters.with_start_speed(speed)),
+            Order::PlateauSpeed(speed) => self.set_parameters(parameters.with_plateau_speed(speed)),
+            Order::Slope(slope) => self.set_parameters(parameters.with_slope(slope)),
+            Order::Distance(steps) => self.set_distance(steps),
+            Order::Forward => self.set_direction(Direction::Forward),
+            Order::Back => self.set_direction(Direction::Back),
+            Order::ZeroCounter => Change::counter(0),
+            Order::SetCounter(value) => Change::counter(value),
+            Order::Move => self.start_movement(Distance { direction, steps }),
             Order::MoveToOrigin => self.start_movement(Distance::to(0, counter)),
             Order::MoveTo(goal) => self.start_movement(Distance::to(goal, counter)),
             Order::SlowStop => self.slow_stop(),
+            Order::PowerOn => Change::power(Power::On),
             Order::PowerOff => self.power_off(),
-            Order::SetOutputs(outputs) => self.outputs = outputs,
-            Order::Choose { number } => self.chosen = Some(number),
-            Order::Start { number } => self.activity = Some(started(number)),
+            Order::SetOutputs(outputs) => self.set_outputs(outputs),
+            Order::Create(block) => self.create(block, records),
+            Order::Erase(sequence) => self.erase(sequence, records),
+            Order::Choose(number) => self.choose(number),
+            Order::Start(number) => self.start(number),
+            Order::Write { index, phase } => write(records, index, phase),
+            Order::ReadPhase { at, record } => Change::answer(Answer::Phase { at, record }),
             Order::Restart => self.restart(),
-            _ => {}
+            Order::ReadParameters => Change::answer(Answer::Parameters),
+            Order::ReadPosition => Change::answer(Answer::Position),
+            Order::ReadVersion => Change::answer(Answer::Version),
+            Order::ReadFault => Change::fault(),
         }
-    }
-
-    // The sequences and the records.
-    fn store(&mut self, order: Order, memory: &mut [Phase])
-        ensures state { state self.new ≡ stored (state self.old) memory.old order }
-        ensures records { memory.new ≡ stored_records (state self.old).blocks memory.old order }
-    {
-        match order {
-            Order::Create(block) => {
-                let _ = self.directory.create(memory, block);
-            }
-            Order::Erase(sequence) => {
-                let _ = self.directory.erase(memory, sequence);
-                self.chosen = choice_without(self.chosen, sequence);
-            }
-            Order::Write { at, phase } => {
-                let _ = self.directory.write(memory, at, phase);
-            }
-            _ => {}
-        }
-    }
-
-    // Does what an accepted order says, and answers what it does to the axis.
-    pub fn obey(&mut self, order: Order, memory: &mut [Phase], counter: i32) -> Change
-        ensures change { result ≡ order_change (state self.old).chosen order }
-        ensures state { state self.new ≡ obeyed (state self.old) memory.old counter order }
-        ensures records { memory.new ≡ stored_records (state self.old).blocks memory.old order }
-    {
-        let change = change(order, self.chosen);
-        self.act(order, counter);
-        self.store(order, memory);
-        change
     }
 }

@@ -1,7 +1,7 @@
-// One tick of what goes on.
+//! One tick of what goes on.
 ghost use Rattle.std.specs.Prelude.{◌≡◌};
-ghost use Rattle.engine.specs.Progress.{progress, outcome};
-ghost use Rattle.control.specs.States.{state, doing_of, goes_on};
+ghost use Rattle.engine.specs.Progress.{progress};
+ghost use Rattle.control.specs.States.{state, activity_of, goes_on};
 ghost use Rattle.control.specs.Ticks.{run_outcome, run_ticked, tick_effects, ticked};
 
 use crate::activity::Activity;
@@ -12,7 +12,7 @@ use phases::Phase;
 impl Control {
     // What is left goes on; without it the module is at rest, with the outputs at FFh.
     pub(crate) fn go_on(&mut self, rest: Option<Activity>)
-        ensures { state self.new ≡ goes_on (state self.old) (doing_of rest) }
+        ensures { state self.new ≡ goes_on (state self.old) (activity_of rest) }
     {
         self.activity = rest;
         if rest.is_none() {
@@ -20,34 +20,30 @@ impl Control {
         }
     }
 
-    // What the tick of a run comes to: the outputs that it sets, and the run that is left.
-    fn take_outcome(&mut self, tick: Outcome)
-        ensures { state self.new ≡ run_ticked (state self.old) (outcome tick) }
+    // One tick of a run: the outputs that it sets, and the run that is left.
+    fn run_tick(&mut self, run: Run, records: &[Phase], counter: i32) -> Effects
+        ensures effects { result ≡ (run_outcome (state self.old) records.now counter (progress run)).effects }
+        ensures state { state self.new ≡ run_ticked (state self.old) (run_outcome (state self.old) records.now counter (progress run)) }
     {
-        self.outputs = tick.effects.outputs.unwrap_or(self.outputs);
-        self.go_on(tick.rest.map(Activity::Running));
-    }
-
-    // One tick of a run.
-    fn run_tick(&mut self, run: Run, memory: &[Phase], counter: i32) -> Effects
-        ensures effects { result ≡ (run_outcome (state self.old) memory.now counter (progress run)).effects }
-        ensures state { state self.new ≡ run_ticked (state self.old) (run_outcome (state self.old) memory.now counter (progress run)) }
-    {
-        let outcome = run.tick(&Surroundings {
-            memory,
+        let Outcome { effects, rest } = run.tick(&Surroundings {
+            records,
             directory: &self.directory,
             counter,
             levels: self.levels,
             parameters: self.settings.parameters,
         });
-        self.take_outcome(outcome);
-        outcome.effects
+        self.outputs = effects.outputs.unwrap_or(self.outputs);
+        match rest {
+            Some(run) => self.go_on(Some(Activity::Running(run))),
+            None => self.go_on(None),
+        }
+        effects
     }
 
-    // One tick: what it does to the axis, and the fault that ends a run.
-    pub fn tick(&mut self, memory: &[Phase], counter: i32) -> Effects
-        ensures effects { result ≡ tick_effects (state self.old) memory.now counter (state self.old).doing }
-        ensures state { state self.new ≡ ticked (state self.old) memory.now counter (state self.old).doing }
+    /// One tick of 1/40,000 s: what it does outside, and the fault that ends a run.
+    pub fn tick(&mut self, records: &[Phase], counter: i32) -> Effects
+        ensures effects { result ≡ tick_effects (state self.old) records.now counter (state self.old).activity }
+        ensures state { state self.new ≡ ticked (state self.old) records.now counter (state self.old).activity }
     {
         match self.activity {
             None => Effects::default(),
@@ -59,7 +55,7 @@ impl Control {
                     ..Effects::default()
                 }
             }
-            Some(Activity::Running(run)) => self.run_tick(run, memory, counter),
+            Some(Activity::Running(run)) => self.run_tick(run, records, counter),
         }
     }
 }

@@ -6,4 +6,4 @@ mod Waits
 mod Readings
 mod Rules
 mod Plateaus
-mod Ends
+mod Steps

@@ -6,10 +6,10 @@ use Rattle.phases.specs.declared.phase.Phase.{Phase}
 use Rattle.phases.specs.declared.phase.Link.{Link}
 use Rattle.phases.specs.declared.phase.Link.TheVariants as link
 use Rattle.phases.specs.declared.phase.Nature.{Nature}
-use Rattle.phases.specs.declared.phase.Nature.TheVariants.{Relative, Origin, Absolute, ConstantSpeed, Wait, ZeroCounter, PlateauSpeed, PowerOn, PowerOff}
+use Rattle.phases.specs.declared.phase.Nature.TheVariants.{Relative, Origin, Absolute, ConstantSpeed, Wait, PlateauSpeed}
 use Rattle.store.specs.declared.directory.Block.{Block}
 use Rattle.motion.specs.Motions.{Motion, begun, tick_rest, tick_step}
-use Rattle.motion.specs.Values.{speed_within}
+use Rattle.motion.specs.Limits.{speed_within}
 use Rattle.engine.specs.declared.effects.Effects.{Effects}
 use Rattle.phases.specs.declared.phase.Position.{Position}
 use Rattle.motion.specs.declared.distance.Distance.{Distance}
@@ -17,10 +17,10 @@ use Rattle.engine.specs.Positions.{next_of}
 use Rattle.motion.specs.Distances.{distance_to}
 use Rattle.engine.specs.Distances.{distance_of}
 use Rattle.engine.specs.Effects.{step_only, nothing}
-use Rattle.engine.specs.Progress.{Progress, Activity, entering, moving, waiting, Outcome, with_returns, with_plateau}
+use Rattle.engine.specs.Progress.{Progress, PhaseState, entering, moving, waiting, Outcome, with_returns, with_plateau}
 use Rattle.engine.specs.Leaving.{agrees, exists, goes_on, linked, leaves, phase_ended, returns_from}
 use Rattle.engine.specs.Entering.{entered, sets_movement, moves_by, starts, enters, phase_at}
-use Rattle.engine.specs.Ticks.{moved, activity_tick, tick}
+use Rattle.engine.specs.Ticks.{moved, state_tick, tick}
 use Rattle.engine.specs.Rules.{set_by, plateau_entering, plateau_after, HasPlateau, PlateauLasts}
 use Rattle.engine.specs.Surroundings.{Moment, Program}
 
@@ -59,7 +59,7 @@ module _ (g : Program) (t : Moment) (c : Progress) where
   has_sets p (Some m) = refl
 
   has_moves : (p : Phase) (d : Distance) (constant : Bool) → HasPlateau c.plateau (moves_by g t c p d constant).rest
-  has_moves p d constant = has_sets p (begun g.values c.plateau d.sense d.steps constant)
+  has_moves p d constant = has_sets p (begun g.values c.plateau d.direction d.steps constant)
 
   has_starts : (p : Phase) (n : Nature) → HasPlateau (set_by p n c.plateau) (starts g t c p n).rest
   has_starts p Relative = has_moves p (distance_of p) false
@@ -67,10 +67,8 @@ module _ (g : Program) (t : Moment) (c : Progress) where
   has_starts p Absolute = has_moves p (distance_to p.set_point t.counter) false
   has_starts p Origin = has_moves p (distance_to (pos 0) t.counter) false
   has_starts p Wait = refl
-  has_starts p ZeroCounter = has_left g t c p (entered p)
   has_starts p PlateauSpeed = has_left g t (with_plateau c (speed_within p.set_point)) p (entered p)
-  has_starts p PowerOn = has_left g t c p (entered p)
-  has_starts p PowerOff = has_left g t c p (entered p)
+  has_starts p _ = has_left g t c p (entered p)
 
   has_returns : (qs : List (Option Position)) → HasPlateau c.plateau (returns_from c qs)
   has_returns [] = tt
@@ -86,7 +84,7 @@ module _ (g : Program) (t : Moment) (c : Progress) where
       cond_both m.stopping _ _ (λ (o : Outcome). HasPlateau c.plateau o.rest) (λ _. tt)
       (λ _. has_left g t c p (step_only (tick_step m)))
 
-  has_tick : (a : Activity) → HasPlateau (plateau_after g c a) (activity_tick g t c a).rest
+  has_tick : (a : PhaseState) → HasPlateau (plateau_after g c a) (state_tick g t c a).rest
   has_tick entering = has_enters (phase_at g c.at)
   has_tick (moving p m) = has_moved p m (tick_rest m)
   has_tick (waiting p n) =
@@ -94,4 +92,4 @@ module _ (g : Program) (t : Moment) (c : Progress) where
       (λ _. has_left g t c p nothing) (λ _. refl)
 
 pub plateau_lasts : (g : Program) (t : Moment) (c : Progress) → PlateauLasts g c (tick g t c)
-plateau_lasts g t c = has_tick g t c c.activity
+plateau_lasts g t c = has_tick g t c c.state

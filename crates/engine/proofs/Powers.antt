@@ -6,24 +6,24 @@ use Rattle.phases.specs.declared.phase.Phase.{Phase}
 use Rattle.phases.specs.declared.phase.Link.{Link}
 use Rattle.phases.specs.declared.phase.Link.TheVariants as link
 use Rattle.phases.specs.declared.phase.Nature.{Nature}
-use Rattle.phases.specs.declared.phase.Nature.TheVariants.{Relative, Origin, Absolute, ConstantSpeed, Wait, ZeroCounter, PlateauSpeed, PowerOn, PowerOff}
+use Rattle.phases.specs.declared.phase.Nature.TheVariants.{Relative, Origin, Absolute, ConstantSpeed, Wait, PlateauSpeed}
 use Rattle.store.specs.declared.directory.Block.{Block}
 use Rattle.motion.specs.Motions.{Motion, begun, tick_rest, tick_step}
-use Rattle.motion.specs.Values.{speed_within}
+use Rattle.motion.specs.Limits.{speed_within}
 use Rattle.engine.specs.declared.effects.Effects.{Effects}
-use Rattle.engine.specs.declared.effects.Power.TheVariants.{On}
+use Rattle.steps.specs.declared.power.Power.TheVariants.{On}
 use Rattle.phases.specs.declared.phase.Position.{Position}
 use Rattle.motion.specs.declared.distance.Distance.{Distance}
 use Rattle.engine.specs.Positions.{next_of}
 use Rattle.motion.specs.Distances.{distance_to}
 use Rattle.engine.specs.Distances.{distance_of}
 use Rattle.engine.specs.Effects.{step_only, nothing}
-use Rattle.engine.specs.Progress.{Progress, Activity, entering, moving, waiting, Outcome, with_returns, with_plateau}
+use Rattle.engine.specs.Progress.{Progress, PhaseState, entering, moving, waiting, Outcome, with_returns, with_plateau}
 use Rattle.engine.specs.Leaving.{agrees, exists, goes_on, linked, leaves, phase_ended, returns_from}
 use Rattle.engine.specs.Entering.{power_of, entered, sets_movement, moves_by, starts, enters, phase_at}
-use Rattle.engine.specs.Ticks.{moved, activity_tick, told}
+use Rattle.engine.specs.Ticks.{moved, state_tick}
 use Rattle.engine.specs.Surroundings.{Moment, Program}
-use Rattle.engine.specs.Whole.{switched, ActivityPowered, Powered, StepsWithPower}
+use Rattle.engine.specs.Laws.{switched, StatePowered, Powered, StepsWithPower}
 
 -- a step is made with power on, and then power is not switched nor the counter zeroed
 abbrev StepFine : Bool → Effects → Type 0
@@ -78,7 +78,7 @@ fine_sets on g t c p h (Some m) = (subst (λ w. switched on w ≡ true) (sym h) 
 
 module _ (on : Bool) (g : Program) (t : Moment) (c : Progress) (p : Phase) where
   fine_moves : power_of p.nature ≡ Some On → (d : Distance) (constant : Bool) → FineOutcome on (moves_by g t c p d constant)
-  fine_moves h d constant = fine_sets on g t c p h (begun g.values c.plateau d.sense d.steps constant)
+  fine_moves h d constant = fine_sets on g t c p h (begun g.values c.plateau d.direction d.steps constant)
 
   fine_starts : (n : Nature) → power_of p.nature ≡ power_of n → FineOutcome on (starts g t c p n)
   fine_starts Relative h = fine_moves h (distance_of p) false
@@ -86,10 +86,8 @@ module _ (on : Bool) (g : Program) (t : Moment) (c : Progress) (p : Phase) where
   fine_starts Absolute h = fine_moves h (distance_to p.set_point t.counter) false
   fine_starts Origin h = fine_moves h (distance_to (pos 0) t.counter) false
   fine_starts Wait h = (tt, no_step on p)
-  fine_starts ZeroCounter h = fine_left on g t c p (entered p) (no_step on p)
   fine_starts PlateauSpeed h = fine_left on g t (with_plateau c (speed_within p.set_point)) p (entered p) (no_step on p)
-  fine_starts PowerOn h = fine_left on g t c p (entered p) (no_step on p)
-  fine_starts PowerOff h = fine_left on g t c p (entered p) (no_step on p)
+  fine_starts _ h = fine_left on g t c p (entered p) (no_step on p)
 
 none_returns : (c : Progress) (qs : List (Option Position)) → NoMovement (returns_from c qs)
 none_returns c [] b = tt
@@ -105,7 +103,7 @@ fine_moved on g t c p h m None =
     cond_both m.stopping _ _ (FineOutcome on) (λ _. (tt, λ _. (h, refl, refl)))
     (λ _. fine_left on g t c p (step_only (tick_step m)) (λ _. (h, refl, refl)))
 
-fine_tick : (on : Bool) (g : Program) (t : Moment) (c : Progress) (a : Activity) → ActivityPowered on a → FineOutcome on (activity_tick g t c a)
+fine_tick : (on : Bool) (g : Program) (t : Moment) (c : Progress) (a : PhaseState) → StatePowered on a → FineOutcome on (state_tick g t c a)
 fine_tick on g t c entering h = fine_enters on g t c (phase_at g c.at)
 fine_tick on g t c (moving p m) h = fine_moved on g t c p h m (tick_rest m)
 fine_tick on g t c (waiting p n) h =
@@ -113,11 +111,5 @@ fine_tick on g t c (waiting p n) h =
     (λ _. fine_left on g t c p nothing (λ q. absurd (false≢true q)))
     (λ _. (tt, λ q. absurd (false≢true q)))
 
-fine_told : (on : Bool) (e : Effects) (r : Option Progress) → Fine on e r → Fine on (told e r) r
-fine_told on e None f = f
-fine_told on e (Some c) f = f
-
 pub steps_with_power : StepsWithPower
-steps_with_power g t c on h =
-    let o : Outcome = activity_tick g t c c.activity in
-    fine_told on o.effects o.rest (fine_tick on g t c c.activity h)
+steps_with_power g t c on h = fine_tick on g t c c.state h

@@ -5,9 +5,8 @@ use Rattle.faults.specs.declared.Fault.{Fault}
 use Rattle.faults.specs.Faults.{and_then}
 use Rattle.phases.specs.declared.phase.Phase.{Phase}
 use Rattle.phases.specs.Phases.{Written, blank}
-use Rattle.store.specs.Records.{lent, shown, located, read_answer}
-use Rattle.engine.specs.Entering.{written}
-use Rattle.engine.specs.Whole.{RunsOnlyWritten}
+use Rattle.store.specs.Records.{lent, shown, located, read_answer, written}
+use Rattle.engine.specs.Laws.{RunsOnlyWritten}
 
 shown_written : (x p : Phase) → shown x ≡ Some p → Written p ≡ true
 shown_written x p =

@@ -6,10 +6,9 @@ use Rattle.phases.specs.declared.phase.Phase.{Phase}
 use Rattle.phases.specs.declared.phase.Link.{Link}
 use Rattle.phases.specs.declared.phase.Link.TheVariants as link
 use Rattle.phases.specs.declared.phase.Nature.{Nature}
-use Rattle.phases.specs.declared.phase.Nature.TheVariants.{Relative, Origin, Absolute, ConstantSpeed, Wait, ZeroCounter, PlateauSpeed, PowerOn, PowerOff}
-use Rattle.store.specs.declared.directory.Block.{Block}
+use Rattle.phases.specs.declared.phase.Nature.TheVariants.{Relative, Origin, Absolute, ConstantSpeed, Wait, PlateauSpeed}
 use Rattle.motion.specs.Motions.{Motion, at_start, tick_rest, tick_step}
-use Rattle.motion.specs.Values.{speed_within}
+use Rattle.motion.specs.Limits.{speed_within}
 use Rattle.engine.specs.declared.effects.Effects.{Effects}
 use Rattle.phases.specs.declared.phase.Position.{Position}
 use Rattle.motion.specs.declared.distance.Distance.{Distance}
@@ -17,17 +16,17 @@ use Rattle.engine.specs.Positions.{first_of, following, next_of}
 use Rattle.motion.specs.Distances.{distance_to}
 use Rattle.engine.specs.Distances.{distance_of}
 use Rattle.engine.specs.Effects.{step_only, nothing}
-use Rattle.engine.specs.Progress.{Progress, Activity, entering, moving, waiting, Outcome, with_returns, with_plateau, with_activity}
+use Rattle.engine.specs.Progress.{Progress, PhaseState, entering, moving, waiting, Outcome, with_returns, with_plateau, with_state}
 use Rattle.engine.specs.Leaving as leaving
 use Rattle.engine.specs.Leaving.{agrees, exists, linked, leaves, phase_ended, returns_from}
 use Rattle.engine.specs.Entering.{entered, sets_movement, moves_by, starts, enters, phase_at}
-use Rattle.engine.specs.Ticks.{moved, activity_tick, told, tick}
-use Rattle.engine.specs.Rules.{Event, continues, over, unwritten, ended_by_ge, ends_entering, entry_event, movement_event, activity_event, event, Stays, Enters, ByTheRules, goes_on, ne_differs, follows, ns, ns_54, nl, nq, nl_absent, nq_absent, nq_fifth, unwritten_ends, unwritten_returns, returns_54, after_ge, GoesByTheRules}
+use Rattle.engine.specs.Ticks.{moved, state_tick, tick}
+use Rattle.engine.specs.Rules.{Event, continues, over, unwritten, ended_by_ge, ends_entering, entry_event, movement_event, state_event, Stays, Enters, ByTheRules, goes_on, ne_differs, follows, ns, ns_54, nl, nq, nl_absent, nq_absent, nq_fifth, unwritten_ends, unwritten_returns, returns_54, after_ge, GoesByTheRules}
 use Rattle.engine.specs.Surroundings.{Moment, Program}
 
 -- the run that goes on at a phase enters it
 enters_at : (c : Progress) (q : Position) → Enters q c.returns (leaving.goes_on c (Some q))
-enters_at c q = (record { at = q; activity = entering; plateau = c.plateau; returns = c.returns }, refl, refl, refl, refl)
+enters_at c q = (record c { at = q; state = entering }, refl, refl, refl, refl)
 
 abbrev Ruled : Program → Moment → Progress → Event → Result (Option Progress) Fault → Type 0
 Ruled g t c e (Ok r) = ByTheRules g.blocks t.levels c.at c.returns e None r
@@ -70,18 +69,18 @@ module _ (g : Program) (t : Moment) (c : Progress) (p : Phase) where
   ruled_left : (e : Effects) → e.fault ≡ None → RuledOutcome g t c (over p) (phase_ended e (leaves g t c p))
   ruled_left e f = ruled_ended (over p) e f (leaves g t c p) ruled_leaves
 
-  moves_on : (m : Motion) → Stays c.at c.returns (Some (with_activity c (moving p m)))
-  moves_on m = (with_activity c (moving p m), refl, refl, refl, λ e. let z : ◌≡◌ {A = ℕ} 0 1 = cc in absurd (omega arith))
+  moves_on : (m : Motion) → Stays c.at c.returns (Some (with_state c (moving p m)))
+  moves_on m = (with_state c (moving p m), refl, refl, refl, λ e. let z : ◌≡◌ {A = ℕ} 0 1 = cc in absurd (omega arith))
 
-  waits_on : (n : ℕ) → Stays c.at c.returns (Some (with_activity c (waiting p n)))
-  waits_on n = (with_activity c (waiting p n), refl, refl, refl, λ e. let z : ◌≡◌ {A = ℕ} 0 1 = cc in absurd (omega arith))
+  waits_on : (n : ℕ) → Stays c.at c.returns (Some (with_state c (waiting p n)))
+  waits_on n = (with_state c (waiting p n), refl, refl, refl, λ e. let z : ◌≡◌ {A = ℕ} 0 1 = cc in absurd (omega arith))
 
   ruled_sets : (b : Bool) (m : Motion) → RuledOutcome g t c (cond b (over p) continues) (sets_movement g t c p (cond b None (Some m)))
   ruled_sets true m = ruled_left (entered p) refl
   ruled_sets false m = goes_on refl refl (moves_on m)
 
   ruled_moves : (d : Distance) (constant : Bool) → RuledOutcome g t c (cond (eqb d.steps 0) (over p) continues) (moves_by g t c p d constant)
-  ruled_moves d constant = ruled_sets (eqb d.steps 0) (at_start g.values c.plateau d.sense d.steps constant)
+  ruled_moves d constant = ruled_sets (eqb d.steps 0) (at_start g.values c.plateau d.direction d.steps constant)
 
   ruled_stopping : (m : Motion) (b : Bool) →
       RuledOutcome g t c (cond b ended_by_ge (over p))
@@ -95,7 +94,7 @@ module _ (g : Program) (t : Moment) (c : Progress) (p : Phase) where
 
   ruled_waited : (n : ℕ) (b : Bool) →
       RuledOutcome g t c (cond b (over p) continues)
-      (cond b (phase_ended nothing (leaves g t c p)) (record { effects = nothing; rest = Some (with_activity c (waiting p n)) }))
+      (cond b (phase_ended nothing (leaves g t c p)) (record { effects = nothing; rest = Some (with_state c (waiting p n)) }))
   ruled_waited n true = ruled_left nothing refl
   ruled_waited n false = goes_on refl refl (waits_on n)
 
@@ -105,10 +104,8 @@ ruled_starts g t c p ConstantSpeed = ruled_moves g t c p (distance_of p) true
 ruled_starts g t c p Absolute = ruled_moves g t c p (distance_to p.set_point t.counter) false
 ruled_starts g t c p Origin = ruled_moves g t c p (distance_to (pos 0) t.counter) false
 ruled_starts g t c p Wait = goes_on refl refl (waits_on g t c p _)
-ruled_starts g t c p ZeroCounter = ruled_left g t c p (entered p) refl
 ruled_starts g t c p PlateauSpeed = ruled_left g t (with_plateau c (speed_within p.set_point)) p (entered p) refl
-ruled_starts g t c p PowerOn = ruled_left g t c p (entered p) refl
-ruled_starts g t c p PowerOff = ruled_left g t c p (entered p) refl
+ruled_starts g t c p _ = ruled_left g t c p (entered p) refl
 
 ruled_returns : (g : Program) (t : Moment) (c : Progress) (qs : List (Option Position)) → c.returns ≡ qs → ByTheRules g.blocks t.levels c.at c.returns unwritten None (returns_from c qs)
 ruled_returns g t c [] k = unwritten_ends refl k refl refl
@@ -119,16 +116,10 @@ ruled_enters : (g : Program) (t : Moment) (c : Progress) (o : Option Phase) → 
 ruled_enters g t c None = ruled_returns g t c c.returns refl
 ruled_enters g t c (Some p) = ruled_starts g t c p p.nature
 
-ruled_tick : (g : Program) (t : Moment) (c : Progress) (a : Activity) → RuledOutcome g t c (activity_event g t c.at a) (activity_tick g t c a)
+ruled_tick : (g : Program) (t : Moment) (c : Progress) (a : PhaseState) → RuledOutcome g t c (state_event g t c.at a) (state_tick g t c a)
 ruled_tick g t c entering = ruled_enters g t c (phase_at g c.at)
 ruled_tick g t c (moving p m) = ruled_moved g t c p m (tick_rest m)
 ruled_tick g t c (waiting p n) = ruled_waited g t c p _ (leb n 1)
 
-fault_told : (bs : List Block) (levels : ℕ) (q : Position) (calls : List (Option Position)) (x : Event) (e : Effects) (r : Option Progress) → ByTheRules bs levels q calls x e.fault r → ByTheRules bs levels q calls x (told e r).fault r
-fault_told bs levels q calls x e None h = h
-fault_told bs levels q calls x e (Some c) h = h
-
 pub goes_by_the_rules : (g : Program) (t : Moment) (c : Progress) → GoesByTheRules g t c (tick g t c)
-goes_by_the_rules g t c =
-    let o : Outcome = activity_tick g t c c.activity in
-    fault_told g.blocks t.levels c.at c.returns (event g t c) o.effects o.rest (ruled_tick g t c c.activity)
+goes_by_the_rules g t c = ruled_tick g t c c.state

@@ -7,9 +7,9 @@ use Rattle.phases.specs.declared.phase.Phase.{Phase}
 use Rattle.phases.specs.declared.phase.Link.{Link}
 use Rattle.phases.specs.declared.phase.Link.TheVariants as link
 use Rattle.phases.specs.declared.phase.Nature.{Nature}
-use Rattle.phases.specs.declared.phase.Nature.TheVariants.{Relative, Origin, Absolute, ConstantSpeed, Wait, ZeroCounter, PlateauSpeed, PowerOn, PowerOff}
+use Rattle.phases.specs.declared.phase.Nature.TheVariants.{Relative, Origin, Absolute, ConstantSpeed, Wait, PlateauSpeed}
 use Rattle.motion.specs.Motions.{Motion, begun, tick_rest, tick_step}
-use Rattle.motion.specs.Values.{speed_within}
+use Rattle.motion.specs.Limits.{speed_within}
 use Rattle.engine.specs.declared.effects.Effects.{Effects}
 use Rattle.phases.specs.declared.phase.Position.{Position}
 use Rattle.motion.specs.declared.distance.Distance.{Distance}
@@ -17,12 +17,12 @@ use Rattle.engine.specs.Positions.{first_of, following, next_of}
 use Rattle.motion.specs.Distances.{distance_to}
 use Rattle.engine.specs.Distances.{distance_of}
 use Rattle.engine.specs.Effects.{step_only, nothing}
-use Rattle.engine.specs.Progress.{Progress, Activity, entering, moving, waiting, Outcome, with_returns, with_plateau}
+use Rattle.engine.specs.Progress.{Progress, PhaseState, entering, moving, waiting, Outcome, with_returns, with_plateau}
 use Rattle.engine.specs.Leaving.{agrees, exists, goes_on, linked, leaves, phase_ended, returns_from}
 use Rattle.engine.specs.Entering.{entered, sets_movement, moves_by, starts, enters, phase_at}
-use Rattle.engine.specs.Ticks.{moved, activity_tick, started, tick}
+use Rattle.engine.specs.Ticks.{moved, state_tick, started, tick}
 use Rattle.engine.specs.Surroundings.{Moment, Program}
-use Rattle.engine.specs.Whole.{after, InSequence, NextInSequence, InSequences, StaysInSequences}
+use Rattle.engine.specs.Laws.{after, InSequence, NextInSequence, InSequences, StaysInSequences}
 
 abbrev ResultIn : Program → Result (Option Progress) Fault → Type 0
 ResultIn g (Ok r) = InSequences g r
@@ -66,7 +66,7 @@ in_sets g t c p s (Some m) = s
 
 module _ (g : Program) (t : Moment) (c : Progress) (p : Phase) (s : InSequences g (Some c)) where
   in_moves : (d : Distance) (constant : Bool) → InSequences g (moves_by g t c p d constant).rest
-  in_moves d constant = in_sets g t c p s (begun g.values c.plateau d.sense d.steps constant)
+  in_moves d constant = in_sets g t c p s (begun g.values c.plateau d.direction d.steps constant)
 
   in_starts : (n : Nature) → InSequences g (starts g t c p n).rest
   in_starts Relative = in_moves (distance_of p) false
@@ -74,10 +74,8 @@ module _ (g : Program) (t : Moment) (c : Progress) (p : Phase) (s : InSequences 
   in_starts Absolute = in_moves (distance_to p.set_point t.counter) false
   in_starts Origin = in_moves (distance_to (pos 0) t.counter) false
   in_starts Wait = s
-  in_starts ZeroCounter = in_left g t c p s (entered p)
   in_starts PlateauSpeed = in_left g t (with_plateau c (speed_within p.set_point)) p s (entered p)
-  in_starts PowerOn = in_left g t c p s (entered p)
-  in_starts PowerOff = in_left g t c p s (entered p)
+  in_starts _ = in_left g t c p s (entered p)
 
 in_returns : (g : Program) (c : Progress) (qs : List (Option Position)) → AllByRecursion (NextInSequence g) qs → length qs ≤ 4 → InSequences g (returns_from c qs)
 in_returns g c [] a l = tt
@@ -92,7 +90,7 @@ in_moved g t c p s m (Some r) = s
 in_moved g t c p s m None =
     cond_both m.stopping _ _ (λ (o : Outcome). InSequences g o.rest) (λ _. tt) (λ _. in_left g t c p s (step_only (tick_step m)))
 
-in_tick : (g : Program) (t : Moment) (c : Progress) → InSequences g (Some c) → (a : Activity) → InSequences g (activity_tick g t c a).rest
+in_tick : (g : Program) (t : Moment) (c : Progress) → InSequences g (Some c) → (a : PhaseState) → InSequences g (state_tick g t c a).rest
 in_tick g t c s entering = in_enters g t c s (phase_at g c.at)
 in_tick g t c s (moving p m) = in_moved g t c p s m (tick_rest m)
 in_tick g t c s (waiting p n) =
@@ -101,7 +99,7 @@ in_tick g t c s (waiting p n) =
 in_after : (g : Program) (ts : List Moment) (o : Option Progress) → InSequences g o → InSequences g (after g ts o)
 in_after g ts None s = tt
 in_after g [] (Some c) s = s
-in_after g (t ∷ ts) (Some c) s = in_after g ts (tick g t c).rest (in_tick g t c s c.activity)
+in_after g (t ∷ ts) (Some c) s = in_after g ts (tick g t c).rest (in_tick g t c s c.state)
 
 pub stays_in_sequences : StaysInSequences
 stays_in_sequences n g ts e = in_after g ts (Some (started n)) (e, tt, omega arith)

@@ -3,6 +3,6 @@ use Rattle.std.specs.Prelude.{unsigned_abs}
 use Rattle.phases.specs.declared.phase.Phase.{Phase}
 use Rattle.motion.specs.declared.distance.Distance.{Distance}
 
--- the set point's steps, in the sense of S+ or S-
+-- the set point's steps, in the direction of S+ or S-
 abbrev pub distance_of : Phase → Distance
-distance_of p = record { sense = p.sense; steps = unsigned_abs p.set_point }
+distance_of p = record { direction = p.direction; steps = unsigned_abs p.set_point }

@@ -1,4 +1,4 @@
--- The tick in which a phase ends: where the run goes.
+-- Where a run goes once its phase is over.
 use Rattle.std.specs.Prelude.{ℕ, Bool, cond, List, [], ◌∷◌, length, is_some, Some, None, Ok, Err, Option, Result, ◌==◌, bit_and, bit_xor, nat_lt}
 use Rattle.faults.specs.declared.Fault.{Fault}
 use Rattle.faults.specs.declared.Cause.{Cause}
@@ -44,7 +44,7 @@ one_more calls = cond (nat_lt (length calls) 4) (Ok tt) (Err too_many_open)
 -- the phase is entered in the next tick
 abbrev pub goes_on : Progress → Option Position → Option Progress
 goes_on c None = None
-goes_on c (Some q) = Some (record { at = q; activity = entering; plateau = c.plateau; returns = c.returns })
+goes_on c (Some q) = Some (record c { at = q; state = entering })
 
 -- NL and NQ go to phase 1 of the linked sequence, and NQ opens a sub-sequence; an absent sequence comes before a fifth open one
 abbrev pub linked : List Block → Progress → Option Position → Option (Link ℕ) → Result (Option Progress) Fault
@@ -62,7 +62,7 @@ leaves g t c p =
     (linked g.blocks c (next_of c.at p.next) p.link)
     (Ok (goes_on c (Some (following c.at))))
 
--- a run fault ends the run
+-- with a fault the run is over
 abbrev pub phase_ended : Effects → Result (Option Progress) Fault → Outcome
 phase_ended e (Ok rest) = record { effects = e; rest = rest }
 phase_ended e (Err fault) = record { effects = with_fault e fault; rest = None }

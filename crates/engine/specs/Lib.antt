@@ -8,4 +8,4 @@ pub mod Leaving
 pub mod Entering
 pub mod Ticks
 pub mod Rules
-pub mod Whole
+pub mod Laws

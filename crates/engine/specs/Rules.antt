@@ -1,21 +1,20 @@
 -- Where a run goes next, and by what it ends.
 use Rattle.std.specs.Prelude.{◌≡◌, ℕ, ◌<◌, ◌≤◌, Bool, true, false, cond, List, [], ◌∷◌, length, ℤ, pos, Some, None, Option, ◌==◌, ◌≢◌, nat_le}
 use Rattle.faults.specs.declared.Fault.{Fault}
-use Rattle.senses.specs.declared.Sense.{Sense}
+use Rattle.steps.specs.declared.direction.Direction.{Direction}
 use Rattle.phases.specs.declared.phase.Phase.{Phase}
 use Rattle.phases.specs.declared.phase.Link.TheVariants as link
 use Rattle.phases.specs.declared.phase.Nature.{Nature}
-use Rattle.phases.specs.declared.phase.Nature.TheVariants.{Relative, Origin, Absolute, ConstantSpeed, Wait, ZeroCounter, PlateauSpeed, PowerOn, PowerOff}
+use Rattle.phases.specs.declared.phase.Nature.TheVariants.{Relative, Origin, Absolute, ConstantSpeed, Wait, PlateauSpeed}
 use Rattle.store.specs.declared.directory.Block.{Block}
 use Rattle.motion.specs.Motions.{Motion, tick_step, tick_rest}
-use Rattle.motion.specs.Values.{speed_within}
-use Rattle.engine.specs.declared.effects.Effects.{Effects}
+use Rattle.motion.specs.Limits.{speed_within}
 use Rattle.phases.specs.declared.phase.Position.{Position}
 use Rattle.engine.specs.Surroundings.{Program, Moment}
 use Rattle.engine.specs.Positions.{first_of, following, next_of}
 use Rattle.motion.specs.Distances.{distance_to}
 use Rattle.engine.specs.Distances.{distance_of}
-use Rattle.engine.specs.Progress.{Progress, Outcome, Activity, entering, moving, waiting}
+use Rattle.engine.specs.Progress.{Progress, Outcome, PhaseState, entering, moving, waiting}
 use Rattle.engine.specs.Leaving.{link_absent, too_many_open, agrees, exists}
 use Rattle.engine.specs.Entering.{phase_at}
 
@@ -26,17 +25,14 @@ pub data Event : Type 0 where
   unwritten : Event
   ended_by_ge : Event
 
--- NZ, NC, NT, NU and zero distances end in the entering tick
+-- NZ, NC, NT and NU are over in the tick that enters them, and so is a movement without a step to make
 abbrev pub ends_entering : ℤ → Phase → Nature → Bool
 ends_entering counter p Relative = (distance_of p).steps == 0
 ends_entering counter p ConstantSpeed = (distance_of p).steps == 0
 ends_entering counter p Absolute = (distance_to p.set_point counter).steps == 0
 ends_entering counter p Origin = (distance_to (pos 0) counter).steps == 0
 ends_entering counter p Wait = false
-ends_entering counter p ZeroCounter = true
-ends_entering counter p PlateauSpeed = true
-ends_entering counter p PowerOn = true
-ends_entering counter p PowerOff = true
+ends_entering counter p _ = true
 
 abbrev pub entry_event : ℤ → Option Phase → Event
 entry_event counter None = unwritten
@@ -46,21 +42,21 @@ abbrev pub movement_event : Phase → Bool → Option Motion → Event
 movement_event p stopping (Some m) = continues
 movement_event p stopping None = cond stopping ended_by_ge (over p)
 
-abbrev pub activity_event : Program → Moment → Position → Activity → Event
-activity_event g t q entering = entry_event t.counter (phase_at g q)
-activity_event g t q (moving p m) = movement_event p m.stopping (tick_rest m)
-activity_event g t q (waiting p n) = cond (nat_le n 1) (over p) continues
+abbrev pub state_event : Program → Moment → Position → PhaseState → Event
+state_event g t q entering = entry_event t.counter (phase_at g q)
+state_event g t q (moving p m) = movement_event p m.stopping (tick_rest m)
+state_event g t q (waiting p n) = cond (nat_le n 1) (over p) continues
 
 abbrev pub event : Program → Moment → Progress → Event
-event g t c = activity_event g t c.at c.activity
+event g t c = state_event g t c.at c.state
 
 -- the run is still at the phase, which it has entered
 abbrev pub Stays : Position → List (Option Position) → Option Progress → Type 0
-Stays q calls rest = (r : Progress) × (rest ≡ Some r) × (r.at ≡ q) × (r.returns ≡ calls) × (r.activity ≢ entering)
+Stays q calls rest = (r : Progress) × (rest ≡ Some r) × (r.at ≡ q) × (r.returns ≡ calls) × (r.state ≢ entering)
 
 -- the next tick enters that phase, with these sub-sequences open
 abbrev pub Enters : Position → List (Option Position) → Option Progress → Type 0
-Enters q calls rest = (r : Progress) × (rest ≡ Some r) × (r.at ≡ q) × (r.returns ≡ calls) × (r.activity ≡ entering)
+Enters q calls rest = (r : Progress) × (rest ≡ Some r) × (r.at ≡ q) × (r.returns ≡ calls) × (r.state ≡ entering)
 
 -- the run ends
 abbrev pub Ends : Option Progress → Type 0
@@ -106,24 +102,16 @@ GoesByTheRules g t c o = ByTheRules g.blocks t.levels c.at c.returns (event g t 
 -- ---- the plateau set by NC lasts to the end of the run
 
 abbrev pub set_by : Phase → Nature → Option ℕ → Option ℕ
-set_by p Relative v = v
-set_by p ConstantSpeed v = v
-set_by p Absolute v = v
-set_by p Origin v = v
-set_by p Wait v = v
-set_by p ZeroCounter v = v
 set_by p PlateauSpeed v = speed_within p.set_point
-set_by p PowerOn v = v
-set_by p PowerOff v = v
+set_by p _ v = v
 
 abbrev pub plateau_entering : Option Phase → Option ℕ → Option ℕ
 plateau_entering None v = v
 plateau_entering (Some p) v = set_by p p.nature v
 
-abbrev pub plateau_after : Program → Progress → Activity → Option ℕ
+abbrev pub plateau_after : Program → Progress → PhaseState → Option ℕ
 plateau_after g c entering = plateau_entering (phase_at g c.at) c.plateau
-plateau_after g c (moving p m) = c.plateau
-plateau_after g c (waiting p n) = c.plateau
+plateau_after g c _ = c.plateau
 
 abbrev pub HasPlateau : Option ℕ → Option Progress → Type 0
 HasPlateau v None = Unit {0}
@@ -131,17 +119,10 @@ HasPlateau v (Some r) = r.plateau ≡ v
 
 -- only a tick that enters NC changes it
 abbrev pub PlateauLasts : Program → Progress → Outcome → Type 0
-PlateauLasts g c o = HasPlateau (plateau_after g c c.activity) o.rest
-
--- ---- a run that ends is told to have ended, with outputs FFh; one that goes on is not
-
-abbrev pub EndTold : Effects → Option Progress → Type 0
-EndTold e None = (e.ended ≡ true) × (e.outputs ≡ Some 255)
-EndTold e (Some r) = e.ended ≡ false
+PlateauLasts g c o = HasPlateau (plateau_after g c c.state) o.rest
 
 -- ---- a tick answers the step of its movement, also where the phase or the run ends in it, and no other
 
-abbrev pub step_of : Activity → Option Sense
-step_of entering = None
+abbrev pub step_of : PhaseState → Option Direction
 step_of (moving p m) = tick_step m
-step_of (waiting p n) = None
+step_of _ = None

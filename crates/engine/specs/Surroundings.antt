@@ -18,7 +18,7 @@ pub record Moment : Type 0 where
   pub levels : ℕ
 
 abbrev pub program : Surroundings → Program
-program s = record { blocks = sequences s.directory.now; records = s.memory.now; values = values s.parameters }
+program s = record { blocks = sequences s.directory.now; records = s.records.now; values = values s.parameters }
 
 abbrev pub moment : Surroundings → Moment
 moment s = record { counter = s.counter; levels = s.levels }

@@ -1,4 +1,4 @@
-// What can go wrong in a run.
+//! What can go wrong in a run.
 ghost use Rattle.std.specs.Prelude.{◌≡◌};
 ghost use Rattle.engine.specs.Leaving.{run_fault};
 

@@ -1,6 +1,7 @@
-// What holds of whole runs.
-ghost use Rattle.engine.specs.Whole.{StaysInSequences, RunsOnlyWritten, StepsWithPower, StopsAfterGe, WaitsItsTime};
+//! What holds of whole runs.
+ghost use Rattle.engine.specs.Laws.{StaysInSequences, RunsOnlyWritten, StepsWithPower, StopsAfterGe, WaitsItsTime};
 
+/// What holds of every run. It does nothing: its contract is the theorem.
 pub fn run_laws()
     ensures within { StaysInSequences }
     ensures written { RunsOnlyWritten }

@@ -1,4 +1,4 @@
-// The run of a sequence, tick by tick: it reads the phases, the counter and the levels, and answers what is to be done.
+//! The run of a sequence, tick by tick: it reads the phases, the counter and the levels, and answers what is to be done.
 #![tactic(auto)]
 
 mod distance;
@@ -11,12 +11,8 @@ mod returns;
 mod run;
 mod surroundings;
 
-pub use distance::distance_of;
-pub use effects::{Effects, Power};
+pub use effects::Effects;
 pub use laws::run_laws;
 pub use outcome::Outcome;
 pub use run::Run;
 pub use surroundings::Surroundings;
-
-#[cfg(test)]
-mod tests;

@@ -1,4 +1,4 @@
-// The phase that a run is at, and where it goes on.
+//! The phase that a run is at, and where it goes on.
 ghost use Rattle.std.specs.Prelude.{◌≡◌};
 ghost use Rattle.engine.specs.Positions.{first_of, following, next_of};
 

@@ -1,12 +1,12 @@
-// Where the open sub-sequences return to.
+//! Where the open sub-sequences return to.
 ghost use Rattle.std.specs.Prelude.{◌≡◌, ◌≤◌, length};
 
 use phases::Position;
 
 mod stack;
 
-// Only the first `depth` places are in use, the latest last. A fixed array with its depth: a device has no heap, and a
-// run is copied, as an `ArrayVec` cannot be.
+/// Where each open sub-sequence returns to, of at most four; no place is the end of the run. Only the first `depth` places are
+/// in use, the latest last.
 #[derive(Clone, Copy)]
 pub struct Returns {
     places: [Option<Position>; 4],

@@ -1,4 +1,4 @@
-// What a run reads in a tick.
+//! What a run reads in a tick.
 ghost use Rattle.std.specs.Prelude.{◌≡◌};
 ghost use Rattle.engine.specs.Surroundings.{program};
 ghost use Rattle.engine.specs.Entering.{phase_at};
@@ -7,10 +7,11 @@ use motion::Parameters;
 use phases::{Phase, Position};
 use store::Directory;
 
-// The records and the directory of the sequences, the counter, the levels of the inputs, and the parameters of movements.
+/// What a run reads: the 414 records and the directory of the sequences, the counter in steps, the levels of the inputs, and the
+/// parameters of movements.
 #[derive(Clone, Copy)]
 pub struct Surroundings<'a> {
-    pub memory: &'a [Phase],
+    pub records: &'a [Phase],
     pub directory: &'a Directory,
     pub counter: i32,
     pub levels: u8,
@@ -22,6 +23,6 @@ impl<'a> Surroundings<'a> {
     pub(crate) fn phase_at(&self, at: Position) -> Option<Phase>
         ensures { result ≡ phase_at (program self.now) at }
     {
-        self.directory.read(self.memory, at).unwrap_or(None)
+        self.directory.phase_at(self.records, at)
     }
 }

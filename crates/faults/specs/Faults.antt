@@ -33,6 +33,11 @@ name_of Values = codes "values"
 name_of Store = codes "store"
 name_of Run = codes "run"
 
+-- the number of the word at fault, and 0 where there is none
+abbrev pub word_of : Option ℕ → ℕ
+word_of None = 0
+word_of (Some n) = n
+
 -- a refusal by its cause, place and word, if there is one
 abbrev pub stopped : Cause → Place → Option ℕ → Fault
 stopped cause place word = record { cause = cause; place = place; word = word }
@@ -45,7 +50,7 @@ bad_line = stopped BadLine Receiver None
 abbrev pub unknown_command : Fault
 unknown_command = stopped UnknownCommand Reader (Some 1)
 
--- 0: word i is missing, surplus or of wrong form
+-- 0: word i is not there, is one too many, or does not read as it is due
 abbrev pub wrong_form : ℕ → Fault
 wrong_form i = stopped WrongForm Reader (Some i)
 

@@ -4,7 +4,7 @@ use Rattle.phases.specs.declared.phase.Phase.{Phase}
 use Rattle.outputs.specs.Meaning.{Meaning}
 use Rattle.law.specs.Events.{Event}
 use Rattle.law.specs.Law.{Law}
-use Rattle.law.proofs.Whole.{histories_lawful}
+use Rattle.law.proofs.Histories.{histories_lawful}
 use Rattle.law.proofs.Machines.{lawful as device-lawful}
 use Rattle.module.specs.Machine.{machine, module_device}
 use Rattle.history.specs.Histories.{begun}

@@ -1,23 +1,22 @@
 -- A whole history: the module that it begins with, and what its calls answer.
 use Rattle.std.specs.Prelude.{ℕ, Bool, ◌&&◌, List, take, None, Ok, Err, Result, ◌==◌, nat_le}
 use Rattle.faults.specs.declared.Fault.{Fault}
-use Rattle.faults.specs.Faults.{number_of}
 use Rattle.phases.specs.declared.phase.Phase.{Phase}
 use Rattle.outputs.specs.Meaning.{Meaning}
 use Rattle.law.specs.Events.{Answer as Answered}
 use Rattle.law.specs.Events.Answer.{refused, reply, ticked, done}
-use Rattle.law.specs.Machine.{Kept as WithFault, keep}
+use Rattle.law.specs.Machine.{WithFault, keep}
 use Rattle.law.specs.History.{State}
 use Rattle.law.specs.Law.{new}
 use Rattle.module.specs.Machine.{machine, module_device}
-use Rattle.module.specs.Views.{new_rest, addressed}
+use Rattle.module.specs.Views.{new_state, addressed}
 use Rattle.history.specs.declared.answer.Reply.{Reply as Written}
 use Rattle.history.specs.declared.answer.Answer.{Answer}
 use Rattle.history.specs.declared.answer.Answer.TheVariants.{Reply, Ticked, Done}
 
 -- a module made new over an output of this meaning, and set to its address, over these records
 abbrev pub begun : (cycle : ℕ) → ℕ → Meaning → List Phase → WithFault (machine cycle)
-begun cycle address m records = keep (machine cycle) (addressed (new_rest m records) address) None
+begun cycle address m records = keep (machine cycle) (addressed (new_state m records) address) None
 
 abbrev pub started : (cycle : ℕ) → ℕ → Meaning → List Phase → State (module_device cycle)
 started cycle address m records = new (module_device cycle) (begun cycle address m records)
@@ -28,7 +27,7 @@ told r = take r.length r.bytes
 
 -- what the answers of the code mean
 abbrev pub shown : Result Answer Fault → Answered
-shown (Err f) = refused (number_of f.cause)
+shown (Err f) = refused f
 shown (Ok (Reply r)) = reply (told r)
 shown (Ok (Ticked step busy)) = ticked step busy
 shown (Ok Done) = done

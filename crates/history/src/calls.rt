@@ -1,4 +1,4 @@
-// The calls of a history, each handed the first records of the phase memory.
+//! The calls of a history, each handed the first records of the phase memory.
 ghost use Rattle.std.specs.Prelude.{◌≡◌, length};
 ghost use Rattle.law.specs.Events.{event, asked_by, handed, with_room, received as arrived};
 ghost use Rattle.module.specs.Views.{state_in, state_after, answer_to};
@@ -11,8 +11,7 @@ use lines::Character;
 use module::Module;
 use outputs::StepOutput;
 use phases::Phase;
-
-const ROOM: usize = 80;
+use replies::REPLY_ROOM;
 
 // The character call with a reply buffer of `room` bytes.
 fn character<O: StepOutput>(
@@ -24,8 +23,8 @@ fn character<O: StepOutput>(
     ensures state { state_in O.CYCLE device.new memory.new ≡ state_after O.CYCLE device.old memory.old (handed (length memory.old) (with_room room (arrived character.byte character.damaged))) }
     ensures shown { shown result ≡ answer_to O.CYCLE device.old memory.old (handed (length memory.old) (with_room room (arrived character.byte character.damaged))) }
 {
-    let mut bytes = [0u8; ROOM];
-    let length = device.character(character, memory, &mut bytes[0..room.min(ROOM)])?;
+    let mut bytes = [0u8; REPLY_ROOM];
+    let length = device.character(character, memory, &mut bytes[0..room.min(REPLY_ROOM)])?;
     Ok(Answer::Reply(Reply { length, bytes }))
 }
 

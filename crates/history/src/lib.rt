@@ -1,11 +1,14 @@
-// Whole histories of a module: calls, their answers, and the law that every history keeps.
+//! Histories of a module: calls, their answers, and the law that every history keeps; and a module with its memory, to which lines are
+//! sent and for which time passes.
 #![tactic(auto)]
 
 mod answer;
 mod calls;
-mod whole;
+mod host;
+mod play;
 
 pub use answer::{Answer, Reply};
+pub use host::Host;
 pub use law::{Action, Call};
 pub use lines::Character;
-pub use whole::history;
+pub use play::history;

@@ -7,8 +7,8 @@ use Rattle.law.specs.Device.{Device}
 use Rattle.law.specs.History.{at, after, Setting, noted, last_set}
 use Rattle.law.proofs.Lawful.{Lawful}
 use Rattle.law.specs.Law.{at_end, latest_setting}
-use Rattle.axis.specs.Wrap.{wrapped24, modulo24}
-use Rattle.axis.proofs.Wrap.{wrapped_step, wrapped_place}
+use Rattle.steps.specs.Wrap.{wrapped24, modulo24}
+use Rattle.steps.proofs.Wrap.{wrapped_step, wrapped_place}
 
 module _ (D : Device) where
   abbrev pub Follows : D.Core → Setting → Type 0
@@ -43,18 +43,18 @@ module _ (D : Device) where
     at_ending c l set (Some v) sound e f = just_set (D.finish c l).0 v (L.set_value c l v sound e) (L.set_fits c l v sound e)
 
     at_tick : (c : D.Core) (set : Setting) (b : Bool) → Sound c → D.zeroes c ≡ b → Follows c set →
-        Follows (D.beat c).0 (noted set (D.place (D.beat c).0) (cond b (Some (pos 0)) None))
-    at_tick c set true sound e f = just_set (D.beat c).0 (pos 0) (L.zeroed c sound e) (unfold wrapped24 modulo24 in refl)
-    at_tick c set false sound e f = steps c (D.beat c).0 set (D.beat c).1 (L.step_counter c sound e) (L.step_place c sound e) f
+        Follows (D.tick c).0 (noted set (D.place (D.tick c).0) (cond b (Some (pos 0)) None))
+    at_tick c set true sound e f = just_set (D.tick c).0 (pos 0) (L.zeroed c sound e) (unfold wrapped24 modulo24 in refl)
+    at_tick c set false sound e f = steps c (D.tick c).0 set (D.tick c).1 (L.step_counter c sound e) (L.step_place c sound e) f
 
     pub follows : (h : List Event) (c : D.Core) (l : D.Line) (set : Setting) → Sound c → Follows c set →
         Follows (after D (at D c l) h).core (last_set D (at D c l) set h)
     follows [] c l set sound f = f
-    follows (stopped code ∷ h) c l set sound f = follows h c l set sound f
+    follows (stopped fault ∷ h) c l set sound f = follows h c l set sound f
     follows (skipped ∷ h) c l set sound f = follows h c l set sound f
     follows (letter x ∷ h) c l set sound f = follows h c (D.push l x) set sound f
     follows (ending ∷ h) c l set sound f = follows h (D.finish c l).0 D.empty _ (L.sound_finish c l sound) (at_ending c l set (D.sets c l) sound refl f)
-    follows (tick ∷ h) c l set sound f = follows h (D.beat c).0 l _ (L.sound_beat c sound) (at_tick c set (D.zeroes c) sound refl f)
+    follows (tick ∷ h) c l set sound f = follows h (D.tick c).0 l _ (L.sound_tick c sound) (at_tick c set (D.zeroes c) sound refl f)
     follows (levels v ∷ h) c l set sound f =
         follows h (D.set_levels c v) l set (L.sound_levels c v sound)
         (stands c (D.set_levels c v) set (L.levels_counter c v) (L.levels_place c v) f)

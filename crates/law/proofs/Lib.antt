@@ -2,6 +2,6 @@ pub mod Lawful
 pub mod Strangers
 pub mod Refusals
 pub mod Counter
-pub mod Whole
+pub mod Histories
 pub mod Steps
 pub mod Machines

@@ -6,7 +6,7 @@ use Rattle.lines.specs.Characters.{Character}
 use Rattle.law.specs.Events.Event.{stopped, skipped, letter, ending, tick, levels, power_up}
 use Rattle.law.specs.Events.Answer.{refused, reply, ticked, done}
 use Rattle.law.specs.Device.{Device}
-use Rattle.law.specs.History.{State, at, after, answers, those, will_be_refused, spared}
+use Rattle.law.specs.History.{State, at, after, answers, those, will_be_refused, stay_without_refused}
 use Rattle.law.proofs.Lawful.{Lawful}
 use Rattle.law.specs.Law.{besides_rx, new, at_end, all_answers, no_refused}
 
@@ -49,24 +49,24 @@ module _ (D : Device) where
 
     module _ (chosen : ℕ → Bool) where
       pub alike : (h : List Event) (n : ℕ) (c cs : D.Core) (l : D.Line) → Sound c → D.rest c ≡ D.rest cs →
-          Alike (spared D chosen n (at D c l) h) (at D c l) h
-          (at D cs (short (chosen n && will_be_refused D (at D c l) h) l)) (those (spared D chosen n (at D c l) h) h)
+          Alike (stay_without_refused D chosen n (at D c l) h) (at D c l) h
+          (at D cs (short (chosen n && will_be_refused D (at D c l) h) l)) (those (stay_without_refused D chosen n (at D c l) h) h)
       alike [] n c cs l sound e = (refl, e)
-      alike (stopped code ∷ h) n c cs l sound e =
-          let ih = alike h n c cs l sound e in (ap (λ rest. refused code ∷ rest) ih.0, ih.1)
+      alike (stopped fault ∷ h) n c cs l sound e =
+          let ih = alike h n c cs l sound e in (ap (λ rest. refused fault ∷ rest) ih.0, ih.1)
       alike (skipped ∷ h) n c cs l sound e =
           let ih = alike h n c cs l sound e in (ap (λ rest. reply [] ∷ rest) ih.0, ih.1)
       alike (letter x ∷ h) n c cs l sound e =
-          at_letter c cs l x h (spared D chosen n (at D c (D.push l x)) h)
+          at_letter c cs l x h (stay_without_refused D chosen n (at D c (D.push l x)) h)
           (chosen n && will_be_refused D (at D c (D.push l x)) h) (alike h n c cs (D.push l x) sound e)
       alike (ending ∷ h) n c cs l sound e =
           let c' = (D.finish c l).0 in
-          let m = spared D chosen (suc n) (at D c' D.empty) h in
+          let m = stay_without_refused D chosen (suc n) (at D c' D.empty) h in
           at_ending c cs l h m (chosen n) (D.refuses c l) sound refl e
           (λ d same. at_start (chosen (suc n) && will_be_refused D (at D c' D.empty) h) m c' d h (those m h)
           (alike h (suc n) c' d D.empty (L.sound_finish c l sound) same))
       alike (tick ∷ h) n c cs l sound e =
-          let ih = alike h n (D.beat c).0 (D.beat cs).0 l (L.sound_beat c sound) (L.rest_beat c cs e) in (
+          let ih = alike h n (D.tick c).0 (D.tick cs).0 l (L.sound_tick c sound) (L.rest_tick c cs e) in (
             ap₂ (λ first rest. first ∷ rest) (ap₂ ticked (L.rest_step c cs e) (L.rest_busy c cs e)) ih.0,
             ih.1,
           )
@@ -74,7 +74,7 @@ module _ (D : Device) where
           let ih = alike h n (D.set_levels c v) (D.set_levels cs v) l (L.sound_levels c v sound) (L.rest_levels c cs v e) in
           (ap (λ rest. done ∷ rest) ih.0, ih.1)
       alike (power_up ∷ h) n c cs l sound e =
-          let m = spared D chosen (suc n) (at D (D.restart c) D.empty) h in
+          let m = stay_without_refused D chosen (suc n) (at D (D.restart c) D.empty) h in
           let ih = at_start (chosen (suc n) && will_be_refused D (at D (D.restart c) D.empty) h) m (D.restart c) (D.restart cs) h (those m h)
           (alike h (suc n) (D.restart c) (D.restart cs) D.empty (L.sound_restart c sound) (L.rest_restart c cs e)) in
           (ap (λ rest. done ∷ rest) ih.0, ih.1)

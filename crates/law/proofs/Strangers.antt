@@ -2,12 +2,12 @@
 -- The shorter history's unfinished line is empty while the longer one's is a stranger's.
 use Rattle.std.proofs.Common.{◌≡◌, ℕ, Bool, true, false, cond, List, [], ◌∷◌, ◌++◌, sym, refl, ap, ◌∙◌, subst}
 use Rattle.std.proofs.lemmas.List.Sums.{fold_push}
-use Rattle.law.specs.Events.{Event, Answer, heeded}
+use Rattle.law.specs.Events.{Event, Answer, for_module}
 use Rattle.lines.specs.Characters.{Character}
 use Rattle.law.specs.Events.Event.{stopped, skipped, letter, ending, tick, levels, power_up}
 use Rattle.law.specs.Events.Answer.{reply, ticked, done}
 use Rattle.law.specs.Device.{Device}
-use Rattle.law.specs.History.{State, at, after, answers, those, line_of, will_be_heeded, stays}
+use Rattle.law.specs.History.{State, at, after, answers, those, line_of, will_be_for_module, stay_without_strangers}
 use Rattle.law.proofs.Lawful.{Lawful}
 use Rattle.law.specs.Law.{told, tells, new, at_end, all_answers, no_strangers}
 
@@ -21,7 +21,7 @@ module _ (D : Device) where
   abbrev pub Agrees : State D → List Event → List Bool → State D → List Event → Type 0
   Agrees ss hs m s h = (answers D ss hs ≡ those m (answers D s h)) × ((after D ss hs).core ≡ (after D s h).core)
 
-  -- the shorter history's unfinished line is l while l is heeded, and empty while it is a stranger's
+  -- the shorter history's unfinished line is l while l is for_module, and empty while it is a stranger's
   abbrev pub short : Bool → D.Line → D.Line
   short b l = cond b l D.empty
 
@@ -47,48 +47,48 @@ module _ (D : Device) where
 
   module _ {Sound : D.Core → Type 0} (L : Lawful D Sound) (a : ℕ) where
     pub agrees : (h : List Event) (c : D.Core) (xs : List Character) → Sound c → D.address c ≡ a →
-        Agrees (at D c (short (will_be_heeded a xs h) (line_of D xs))) (those (stays a xs h) h) (stays a xs h) (at D c (line_of D xs)) h
+        Agrees (at D c (short (will_be_for_module a xs h) (line_of D xs))) (those (stay_without_strangers a xs h) h) (stay_without_strangers a xs h) (at D c (line_of D xs)) h
     agrees [] c xs sound e = (refl, refl)
-    agrees (stopped code ∷ h) c xs sound e = agrees h c xs sound e
+    agrees (stopped fault ∷ h) c xs sound e = agrees h c xs sound e
     agrees (skipped ∷ h) c xs sound e = agrees h c xs sound e
     agrees (letter x ∷ h) c xs sound e =
-        at_letter c (line_of D xs) x h (stays a (xs ++ (x ∷ [])) h) (will_be_heeded a (xs ++ (x ∷ [])) h)
-        (subst (λ l. Agrees (at D c (short (will_be_heeded a (xs ++ (x ∷ [])) h) l)) (those (stays a (xs ++ (x ∷ [])) h) h)
-        (stays a (xs ++ (x ∷ [])) h) (at D c l) h)
+        at_letter c (line_of D xs) x h (stay_without_strangers a (xs ++ (x ∷ [])) h) (will_be_for_module a (xs ++ (x ∷ [])) h)
+        (subst (λ l. Agrees (at D c (short (will_be_for_module a (xs ++ (x ∷ [])) h) l)) (those (stay_without_strangers a (xs ++ (x ∷ [])) h) h)
+        (stay_without_strangers a (xs ++ (x ∷ [])) h) (at D c l) h)
         (fold_push D.push D.empty xs x) (agrees h c (xs ++ (x ∷ [])) sound e))
     agrees (ending ∷ h) c xs sound e =
-        at_ending c (line_of D xs) h (stays a [] h) (heeded a xs)
-        (λ stranger. L.ignores_strangers c xs sound (ap (λ n. heeded n xs) e ∙ stranger))
-        (at_start (will_be_heeded a [] h) (D.finish c (line_of D xs)).0 (those (stays a [] h) h) (stays a [] h) h
+        at_ending c (line_of D xs) h (stay_without_strangers a [] h) (for_module a xs)
+        (λ stranger. L.ignores_strangers c xs sound (ap (λ n. for_module n xs) e ∙ stranger))
+        (at_start (will_be_for_module a [] h) (D.finish c (line_of D xs)).0 (those (stay_without_strangers a [] h) h) (stay_without_strangers a [] h) h
         (agrees h (D.finish c (line_of D xs)).0 [] (L.sound_finish c (line_of D xs) sound) (L.address_finish c (line_of D xs) ∙ e)))
     agrees (tick ∷ h) c xs sound e =
-        let ih = agrees h (D.beat c).0 xs (L.sound_beat c sound) (L.address_beat c ∙ e) in
-        (ap (λ rest. ticked (D.beat c).1 (D.beat c).2 ∷ rest) ih.0, ih.1)
+        let ih = agrees h (D.tick c).0 xs (L.sound_tick c sound) (L.address_tick c ∙ e) in
+        (ap (λ rest. ticked (D.tick c).1 (D.tick c).2 ∷ rest) ih.0, ih.1)
     agrees (levels v ∷ h) c xs sound e =
         let ih = agrees h (D.set_levels c v) xs (L.sound_levels c v sound) (L.address_levels c v ∙ e) in (ap (λ rest. done ∷ rest) ih.0, ih.1)
     agrees (power_up ∷ h) c xs sound e =
-        let ih = at_start (will_be_heeded a [] h) (D.restart c) (those (stays a [] h) h) (stays a [] h) h
+        let ih = at_start (will_be_for_module a [] h) (D.restart c) (those (stay_without_strangers a [] h) h) (stay_without_strangers a [] h) h
         (agrees h (D.restart c) [] (L.sound_restart c sound) (L.address_restart c ∙ e)) in
         (ap (λ rest. done ∷ rest) ih.0, ih.1)
 
     -- what is told in all is told by the calls that stay
     pub same_told : (h : List Event) (c : D.Core) (xs : List Character) → Sound c → D.address c ≡ a →
-        told (answers D (at D c (line_of D xs)) h) ≡ told (those (stays a xs h) (answers D (at D c (line_of D xs)) h))
+        told (answers D (at D c (line_of D xs)) h) ≡ told (those (stay_without_strangers a xs h) (answers D (at D c (line_of D xs)) h))
     same_told [] c xs sound e = refl
-    same_told (stopped code ∷ h) c xs sound e = same_told h c xs sound e
+    same_told (stopped fault ∷ h) c xs sound e = same_told h c xs sound e
     same_told (skipped ∷ h) c xs sound e = same_told h c xs sound e
     same_told (letter x ∷ h) c xs sound e =
-        told_marked (will_be_heeded a (xs ++ (x ∷ [])) h) (stays a (xs ++ (x ∷ [])) h) (reply [])
+        told_marked (will_be_for_module a (xs ++ (x ∷ [])) h) (stay_without_strangers a (xs ++ (x ∷ [])) h) (reply [])
         (answers D (at D c (D.push (line_of D xs) x)) h) (λ stranger. refl)
-        (subst (λ l. told (answers D (at D c l) h) ≡ told (those (stays a (xs ++ (x ∷ [])) h) (answers D (at D c l) h)))
+        (subst (λ l. told (answers D (at D c l) h) ≡ told (those (stay_without_strangers a (xs ++ (x ∷ [])) h) (answers D (at D c l) h)))
         (fold_push D.push D.empty xs x) (same_told h c (xs ++ (x ∷ [])) sound e))
     same_told (ending ∷ h) c xs sound e =
-        told_marked (heeded a xs) (stays a [] h) (reply (D.finish c (line_of D xs)).1)
+        told_marked (for_module a xs) (stay_without_strangers a [] h) (reply (D.finish c (line_of D xs)).1)
         (answers D (at D (D.finish c (line_of D xs)).0 D.empty) h)
-        (λ stranger. ap (λ r. tells (reply r.1)) (L.ignores_strangers c xs sound (ap (λ n. heeded n xs) e ∙ stranger)))
+        (λ stranger. ap (λ r. tells (reply r.1)) (L.ignores_strangers c xs sound (ap (λ n. for_module n xs) e ∙ stranger)))
         (same_told h (D.finish c (line_of D xs)).0 [] (L.sound_finish c (line_of D xs) sound) (L.address_finish c (line_of D xs) ∙ e))
     same_told (tick ∷ h) c xs sound e =
-        ap (λ rest. ticked (D.beat c).1 (D.beat c).2 ∷ rest) (same_told h (D.beat c).0 xs (L.sound_beat c sound) (L.address_beat c ∙ e))
+        ap (λ rest. ticked (D.tick c).1 (D.tick c).2 ∷ rest) (same_told h (D.tick c).0 xs (L.sound_tick c sound) (L.address_tick c ∙ e))
     same_told (levels v ∷ h) c xs sound e = same_told h (D.set_levels c v) xs (L.sound_levels c v sound) (L.address_levels c v ∙ e)
     same_told (power_up ∷ h) c xs sound e = same_told h (D.restart c) [] (L.sound_restart c sound) (L.address_restart c ∙ e)
 
@@ -100,9 +100,9 @@ pub strangers : (D : Device) {Sound : D.Core → Type 0} (L : Lawful D Sound) (c
     × (at_end D c h ≡ at_end D c h')
 strangers D L c sound h h' same =
     let short : Agrees D (new D c) (those (no_strangers D c h) h) (no_strangers D c h) (new D c) h =
-    at_start D (will_be_heeded (D.address c) [] h) c _ _ h (agrees D L (D.address c) h c [] sound refl) in
+    at_start D (will_be_for_module (D.address c) [] h) c _ _ h (agrees D L (D.address c) h c [] sound refl) in
     let short' : Agrees D (new D c) (those (no_strangers D c h') h') (no_strangers D c h') (new D c) h' =
-    at_start D (will_be_heeded (D.address c) [] h') c _ _ h' (agrees D L (D.address c) h' c [] sound refl) in
+    at_start D (will_be_for_module (D.address c) [] h') c _ _ h' (agrees D L (D.address c) h' c [] sound refl) in
     let left : those (no_strangers D c h) (all_answers D c h) ≡ those (no_strangers D c h') (all_answers D c h') =
     sym short.0 ∙ (ap (answers D (new D c)) same ∙ short'.0) in (
       left,

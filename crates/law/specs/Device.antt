@@ -14,7 +14,7 @@ pub record Device : Type 1 where
   pub finish : Core → Line → Core × List ℕ
   -- is it an own line or a broadcast that is stopped at the receiver, reader, state, values or store?
   pub refuses : Core → Line → Bool
-  pub beat : Core → Core × ℤ × Bool
+  pub tick : Core → Core × ℤ × Bool
   pub set_levels : Core → ℕ → Core
   pub restart : Core → Core
   -- all of the core but the fault record

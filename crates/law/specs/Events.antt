@@ -1,5 +1,7 @@
 -- What the calls of a history are to the module and to the line.
 use Rattle.std.specs.Prelude.{ℕ, Bool, true, false, cond, ◌||◌, List, ℤ, ◌==◌, nat_lt}
+use Rattle.faults.specs.declared.Fault.{Fault}
+use Rattle.faults.specs.Faults.{wrong_memory, short_reply}
 use Rattle.lines.specs.Characters.{Character, is_own, is_broadcast}
 use Rattle.law.specs.declared.Call.{Call}
 use Rattle.law.specs.declared.Action.{Action}
@@ -7,7 +9,7 @@ use Rattle.law.specs.declared.Action.TheVariants as action
 
 -- What a call is once it is checked.
 pub data Event : Type 0 where
-  stopped : ℕ → Event  -- refused for the caller's error, 101 or 102: the call counts as not made
+  stopped : Fault → Event  -- a caller's error, 101 or 102: nothing is done
   skipped : Event  -- an undamaged 0Ah
   letter : Character → Event  -- one more character of the line
   ending : Event  -- an undamaged 0Dh, the end of the line
@@ -15,12 +17,12 @@ pub data Event : Type 0 where
   levels : ℕ → Event
   power_up : Event
 
--- a call that is handed other than 414 phase records gets 101, then a reply buffer under 80 bytes gets 102
+-- the records are counted first: other than 414 are 101; then a buffer that is too short is 102
 abbrev pub handed : ℕ → Event → Event
-handed lent e = cond (lent == 414) e (stopped 101)
+handed lent e = cond (lent == 414) e (stopped wrong_memory)
 
 abbrev pub with_room : ℕ → Event → Event
-with_room room e = cond (nat_lt room 80) (stopped 102) e
+with_room room e = cond (nat_lt room 80) (stopped short_reply) e
 
 abbrev pub received : ℕ → Bool → Event
 received byte true = letter (byte, true)
@@ -45,11 +47,11 @@ event c = handed (lent_to c) (asked c)
 
 -- What a call answers.
 pub data Answer : Type 0 where
-  refused : ℕ → Answer  -- the caller's error
+  refused : Fault → Answer  -- the caller's error
   reply : List ℕ → Answer  -- the reply to a character, mostly empty
   ticked : ℤ → Bool → Answer  -- the step made, and whether the module is still busy
   done : Answer
 
--- an own line or a broadcast; every other line is a stranger's
-abbrev pub heeded : ℕ → List Character → Bool
-heeded address line = is_own address line || is_broadcast line
+-- whether a line concerns the module: by its address, or as one for all
+abbrev pub for_module : ℕ → List Character → Bool
+for_module address line = is_own address line || is_broadcast line

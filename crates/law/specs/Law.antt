@@ -1,14 +1,14 @@
 -- The law of whole histories.
 use Rattle.std.specs.Prelude.{◌≡◌, ℕ, Bool, true, false, cond, ◌&&◌, List, [], ◌∷◌, map, take, pos, ◌+ℤ◌, ◌-ℤ◌, ◌==◌, slice_index}
-use Rattle.axis.specs.Wrap.{wrapped24}
+use Rattle.steps.specs.Wrap.{wrapped24}
 use Rattle.law.specs.Events.{Event, Answer}
 use Rattle.law.specs.Events.Answer.{refused, reply, ticked, done}
 use Rattle.law.specs.Device.{Device}
-use Rattle.law.specs.History.{State, at, after, answers, those, stays, spared, Setting, last_set}
+use Rattle.law.specs.History.{State, at, after, answers, those, stay_without_strangers, stay_without_refused, Setting, last_set}
 
 -- The answers that tell something: the replies that are not empty, and those of the ticks.
 abbrev pub tells : Answer → Bool
-tells (refused code) = false
+tells (refused fault) = false
 tells (reply []) = false
 tells (reply (b ∷ bs)) = true
 tells (ticked step busy) = true
@@ -18,12 +18,12 @@ abbrev pub told : List Answer → List Answer
 told [] = []
 told (x ∷ xs) = cond (tells x) (x ∷ told xs) (told xs)
 
--- What RX tells is not compared: of a reply with the letters EE behind the address only these four characters are.
+-- What RX tells is not compared: of a reply with the letters EE after the address only these four characters are.
 abbrev pub besides_fault : List ℕ → List ℕ
 besides_fault bytes = cond (slice_index bytes 2 == 69 && slice_index bytes 3 == 69) (take 4 bytes) bytes
 
 abbrev pub besides_rx : Answer → Answer
-besides_rx (refused code) = refused code
+besides_rx (refused fault) = refused fault
 besides_rx (reply bytes) = reply (besides_fault bytes)
 besides_rx (ticked step busy) = ticked step busy
 besides_rx done = done
@@ -40,10 +40,10 @@ all_answers D start h = answers D (new D start) h
 
 -- the marks of the calls that stay once strangers' lines are struck out, and once the chosen refused lines are
 abbrev pub no_strangers : (D : Device) → D.Core → List Event → List Bool
-no_strangers D start h = stays (D.address start) [] h
+no_strangers D start h = stay_without_strangers (D.address start) [] h
 
 abbrev pub no_refused : (D : Device) → D.Core → (ℕ → Bool) → List Event → List Bool
-no_refused D start chosen h = spared D chosen 0 (new D start) h
+no_refused D start chosen h = stay_without_refused D chosen 0 (new D start) h
 
 -- making sets the counter to 0
 abbrev pub latest_setting : (D : Device) → D.Core → List Event → Setting

@@ -1,3 +1,5 @@
 mod Called
 mod Stored
+mod Done
+mod Ended
 mod Powered

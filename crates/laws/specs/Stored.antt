@@ -3,19 +3,26 @@ use Rattle.std.specs.Prelude.{◌≡◌, ℕ, true, Ok}
 use Rattle.phases.specs.declared.phase.Phase.{Phase}
 use Rattle.phases.specs.declared.phase.Position.{Position}
 use Rattle.phases.specs.Phases.{Written}
-use Rattle.store.specs.Keeps.{Store, Fit}
-use Rattle.store.specs.Records.{located, write_answer}
+use Rattle.store.specs.Keeps.{Fit}
+use Rattle.store.specs.Records.{located}
 use Rattle.texts.specs.Texts.{rs_text}
 use Rattle.orders.specs.declared.order.Order.TheVariants.{Write, ReadPhase}
-use Rattle.module.specs.Rests.{Rest, obeyed_rest}
-use Rattle.module.specs.Lines.{order_reply}
+use Rattle.orders.specs.Values.{read_phase}
+use Rattle.control.specs.States.{store_of}
+use Rattle.law.specs.Machine.{Reply}
+use Rattle.law.specs.Machine.Reply.{text}
+use Rattle.module.specs.States.{ModuleState, order_done, obeyed_state}
+use Rattle.module.specs.Lines.{reply_of}
 
--- the sequences and the records of a module
-abbrev pub store_of : Rest → Store
-store_of r = record { blocks = r.control.blocks; records = r.records }
+-- the reply to an own RS line for this record
+abbrev pub read_reply : (cycle : ℕ) → ModuleState → Position → Phase → Reply
+read_reply cycle r at p = reply_of cycle (obeyed_state r (ReadPhase at p)) (order_done r (ReadPhase at p)).change.answer
 
--- once SP has stored a phase, RS answers with the text of this very phase
+-- once SP has stored a phase, RS finds this very phase and answers with its text
 abbrev pub TellsWhatWasStored : Type 0
 TellsWhatWasStored =
-    (cycle : ℕ) (r : Rest) (at : Position) (p : Phase) → Fit (store_of r) → Written p ≡ true → write_answer (located r.control.blocks at.sequence at.phase) ≡ Ok tt →
-    order_reply cycle (obeyed_rest r (Write at p)) (ReadPhase at) ≡ rs_text r.control.address at.sequence at.phase p
+    (cycle : ℕ) (r : ModuleState) (at : Position) (p : Phase) (index : ℕ) → Fit (store_of r.control r.records) → Written p ≡ true →
+    located r.control.blocks at.sequence at.phase ≡ Ok index →
+    let t = obeyed_state r (Write index p) in
+    (read_phase (store_of t.control t.records) at ≡ Ok (ReadPhase at p))
+    × (read_reply cycle t at p ≡ text (rs_text r.control.address at.sequence at.phase p))

@@ -1,4 +1,4 @@
-// The addresses of the modules on the line.
+//! The addresses of the modules on the line.
 ghost use Rattle.std.specs.Prelude.{◌≡◌};
 ghost use Rattle.lines.specs.Addresses.{address_answer};
 
@@ -6,7 +6,7 @@ use faults::Fault;
 
 const LAST_ADDRESS: u8 = 63;
 
-// Refuses what is no module's address: one above 63.
+/// Refuses what is no module's address: a number above 63.
 pub fn check_address(address: u8) -> Result<(), Fault>
     ensures { result ≡ address_answer address }
 {

@@ -1,4 +1,4 @@
-// What comes off the serial line: characters gathered into lines, and whom a line is for.
+//! What comes off the serial line: characters gathered into lines, and whom a line is for.
 #![tactic(auto)]
 
 mod address;

@@ -1,9 +1,13 @@
-// The characters of one line.
+//! The characters of one line.
 ghost use Rattle.std.specs.Prelude.{◌≤◌};
+ghost use Rattle.lines.specs.declared.line.TheConstants.{CAPACITY};
 
 mod contents;
 
-// Whom a line is for.
+/// The most characters that a line has.
+const CAPACITY: usize = 64;
+
+/// Whom a line is for: the module itself, every module, or another module.
 #[derive(Clone, Copy, PartialEq, Debug)]
 pub enum Addressee {
     Own,
@@ -11,15 +15,14 @@ pub enum Addressee {
     Stranger,
 }
 
-// The first 64 characters, whether the first and the second were damaged, and whether the line is
-// refused: any was damaged, or there were more than 64. A fixed array with its length: a device has no heap, and a line is copied.
-// The flags go with no value: two are asked for whom the line is, the third whether it is read.
+/// What is kept of a line: its first 64 characters, whether the first and the second were damaged, and whether the line is refused:
+/// any was damaged, or there were more than 64.
 #[derive(Clone, Copy)]
 pub struct Line {
-    bytes: [u8; 64],
+    bytes: [u8; CAPACITY],
     len: usize,
     first_damaged: bool,
     second_damaged: bool,
     refused: bool,
-    ghost within: { len ≤ 64 },
+    ghost within: { len ≤ CAPACITY },
 }

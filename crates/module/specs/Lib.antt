@@ -1,4 +1,4 @@
-pub mod Rests
+pub mod States
 pub mod Lines
 pub mod Machine
 pub mod Views

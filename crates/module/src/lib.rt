@@ -1,4 +1,4 @@
-// The module: a line, a fault record, its control and its axis, over any step output.
+//! The module: a line, a fault record, its control and its axis, over any step output.
 #![tactic(auto)]
 
 mod effects;

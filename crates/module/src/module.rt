@@ -1,5 +1,4 @@
-// The module over a step output. The records and the reply buffer are lent by the caller for one call each, so that they go through
-// the methods side by side. What stays behind a private call is a fact of that call, which no invariant could say.
+//! The module over a step output. The records and the reply buffer are lent by the caller for one call each.
 use axis::Axis;
 use control::Control;
 use faults::Fault;
@@ -11,6 +10,7 @@ mod calls;
 mod finish;
 mod readings;
 
+/// A module of the serial line: its unfinished line, its fault record, its control, and its counter beside the step output.
 #[derive(Drop)]
 pub struct Module<O: StepOutput> {
     receiver: Receiver,

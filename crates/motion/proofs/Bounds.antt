@@ -1,7 +1,7 @@
 -- What bounds a movement: its steps and its plateau.
 use Rattle.std.proofs.Common.{◌≡◌, ℕ, zero, suc, ◌+◌, ◌-◌, ◌*◌, ◌≤◌, true, ◌∷◌, length, Some, Option, refl, ap, suc-mul, arith}
 use native.Mathlib.Nat.{div-le_of_le-mul}
-use Rattle.senses.specs.declared.Sense.{Sense}
+use Rattle.steps.specs.declared.direction.Direction.{Direction}
 use Rattle.motion.specs.Motions.{Motion, next_ramp, next_sum, after_step, without_step, tick_step, tick_rest}
 use Rattle.motion.specs.Ticks.{after, with_step, made, UpTo, SpeedAtMost, TickBounds}
 use Rattle.motion.specs.Laws.{Valid, MakesNoMore, AtMostPlateau, ConstantAtMostStart, BetweenSteps}
@@ -10,13 +10,13 @@ use Rattle.motion.proofs.Steps.{added, tick_cases, valid_without_step, valid_aft
 pub makes_no_more : MakesNoMore
 makes_no_more m f zero = (0, omega arith, refl)
 makes_no_more m f (suc n) =
-    tick_cases m (λ step rest. UpTo m.left m.sense (with_step step (made n rest)))
+    tick_cases m (λ step rest. UpTo m.left m.direction (with_step step (made n rest)))
     (λ _. (0, omega arith, refl))
     (λ _ e. makes_no_more (without_step m) (valid_without_step m f e) n)
     (λ _ _ l. (1, omega arith, refl))
     (λ _ _ l.
     let r = makes_no_more (after_step m) (valid_after_step m f l) n in
-    (suc r.0, omega (arith, r.1, f.goes), ap (λ l. m.sense ∷ l) r.2))
+    (suc r.0, omega (arith, r.1, f.goes), ap (λ l. m.direction ∷ l) r.2))
 
 pub at_most_plateau : AtMostPlateau
 at_most_plateau m f zero = omega arith
@@ -43,7 +43,7 @@ constant_at_most_start m f c (suc n) =
     (λ _ e l. omega (arith, constant_at_most_start (after_step m) (valid_after_step m f l) c n, constant_added m c, suc-mul n m.start))
 
 pub between_steps : BetweenSteps
-between_steps m f = omega (arith, at_most_plateau m f 2, f.below, f.most)
+between_steps m f = omega (arith, at_most_plateau m f 2, f.below, f.limits.most)
 
 pub speed_at_most : (m : Motion) → Valid m → SpeedAtMost m.plateau (Some m)
 speed_at_most m f zero n = omega (arith, at_most_plateau m f n, f.below)
@@ -62,7 +62,7 @@ bounds m f = record {
 }
 
 pub tick_bounds :
-    (m : Motion) → Valid m → (step : Option Sense) (rest : Option Motion) →
+    (m : Motion) → Valid m → (step : Option Direction) (rest : Option Motion) →
     step ≡ tick_step m → rest ≡ tick_rest m → TickBounds m step rest
 tick_bounds m f step rest e g = rw (e, g) (bounds m f)
 

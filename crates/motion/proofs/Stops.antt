@@ -31,20 +31,12 @@ ends_in (suc n) m f s h o =
     (λ e _ l. ends_in n (after_step m) (valid_after_step m f l) s (omega (arith, ramp_falls m s)) (omega (arith, ramp_falls m s, above_zero m s e)))
 
 valid_slowing : (m : Motion) → Valid m → Valid (slowing m)
-valid_slowing m f = record {
-  goes = f.goes;
-  below = f.below;
-  ramps = f.ramps;
-  shortest = f.shortest;
-  least = f.least;
-  order = f.order;
-  most = f.most;
-}
+valid_slowing m f = record { goes = f.goes; below = f.below; ramps = f.ramps; limits = f.limits }
 
 pub slowing_ends : (m : Motion) → Valid m → (n : ℕ) → m.ramp ≤ n → 1 ≤ n → after n (Some (slowing m)) ≡ None
 slowing_ends m f n h o = ends_in n (slowing m) (valid_slowing m f) refl h o
 
-pub slowing_steps : (m : Motion) → Valid m → StepsAtMost m.left m.sense (Some (slowing m))
+pub slowing_steps : (m : Motion) → Valid m → StepsAtMost m.left m.direction (Some (slowing m))
 slowing_steps m f = makes_no_more (slowing m) (valid_slowing m f)
 
 stopped_ends : (m : Motion) → Valid m → (n : ℕ) → m.ramp ≤ n → after n (stopped m) ≡ None
@@ -56,5 +48,5 @@ pub slow_stop_ends : SlowStopEnds
 slow_stop_ends m f = (
   stopped_ends m f m.ramp (omega arith),
   stopped_ends m f m.top f.ramps,
-  cond_both (eqb m.ramp 0) _ _ (λ r. StepsAtMost m.left m.sense r) (λ _ n. (0, omega arith, refl)) (λ _. slowing_steps m f),
+  cond_both (eqb m.ramp 0) _ _ (λ r. StepsAtMost m.left m.direction r) (λ _ n. (0, omega arith, refl)) (λ _. slowing_steps m f),
 )

@@ -1,28 +1,32 @@
 -- What holds of every movement.
 use Rattle.std.specs.Prelude.{◌≡◌, ℕ, ◌+◌, ◌*◌, ◌<◌, ◌≤◌, true, false, [], ◌∷◌, length, replicate, Some, None}
-use Rattle.senses.specs.declared.Sense.{Sense}
+use Rattle.steps.specs.declared.direction.Direction.{Direction}
 use Rattle.motion.specs.Values.{Values, initial_values}
 use Rattle.motion.specs.declared.movement.Movement.{Movement}
 use Rattle.motion.specs.Motions.{Motion, motion, begun, stopped}
 use Rattle.motion.specs.Ticks.{after, made, StepsAtMost}
+
+-- the limits of VN, P and K, which a movement keeps throughout
+pub record WithinLimits (start plateau top : ℕ) : Type 0 where
+  pub least : 20 ≤ start
+  pub order : start ≤ plateau
+  pub most : plateau ≤ 20000
+  pub shortest : 1 ≤ top
 
 -- the limits of a movement's numbers
 pub record Valid (m : Motion) : Type 0 where
   pub goes : 1 ≤ m.left
   pub below : m.accumulated < 40000
   pub ramps : m.ramp ≤ m.top
-  pub shortest : 1 ≤ m.top
-  pub least : 20 ≤ m.start
-  pub order : m.start ≤ m.plateau
-  pub most : m.plateau ≤ 20000
+  pub limits : WithinLimits m.start m.plateau m.top
 
 -- every movement of the code keeps them
 abbrev pub EveryMovementValid : Type 0
 EveryMovementValid = (m : Movement) → Valid (motion m)
 
--- in n ticks it makes all its steps, in its sense, and ends
+-- in n ticks it makes all its steps, in its direction, and ends
 abbrev pub DoneIn : ℕ → Motion → Type 0
-DoneIn n m = (made n (Some m) ≡ replicate m.left m.sense) × (after n (Some m) ≡ None)
+DoneIn n m = (made n (Some m) ≡ replicate m.left m.direction) × (after n (Some m) ≡ None)
 
 -- a movement that is not stopped makes exactly its steps and ends, within 2,000 ticks for each
 abbrev pub MakesItsSteps : Type 0
@@ -34,9 +38,9 @@ AtLeastStartSpeed =
     (m : Motion) → Valid m → m.stopping ≡ false → (n s : ℕ) →
     s ≤ m.left → 40000 * s ≤ m.accumulated + n * m.start → s ≤ length (made n (Some m))
 
--- stopped or not, it makes no more steps than are left, and all in its sense
+-- stopped or not, it makes no more steps than are left, and all in its direction
 abbrev pub MakesNoMore : Type 0
-MakesNoMore = (m : Motion) → Valid m → StepsAtMost m.left m.sense (Some m)
+MakesNoMore = (m : Motion) → Valid m → StepsAtMost m.left m.direction (Some m)
 
 -- it is never faster than its plateau: in n ticks it makes no more steps than n ticks at P would
 abbrev pub AtMostPlateau : Type 0
@@ -58,7 +62,7 @@ SlowStopEnds =
     (m : Motion) → Valid m →
     (after m.ramp (stopped m) ≡ None)
     × (after m.top (stopped m) ≡ None)
-    × StepsAtMost m.left m.sense (stopped m)
+    × StepsAtMost m.left m.direction (stopped m)
 
 -- VN and VX 20,000, TR 1,000
 abbrev pub highest_speeds : Values
@@ -67,7 +71,7 @@ highest_speeds = record { start_speed = 20000; plateau_speed = 20000; slope_time
 -- one step of a new module is made at tick 80; two steps at 20,000 steps per second are made at ticks 2 and 4
 abbrev pub Examples : Type 0
 Examples =
-    (x : Sense) →
+    (x : Direction) →
     (made 79 (begun initial_values None x 1 false) ≡ [])
     × (made 80 (begun initial_values None x 1 false) ≡ x ∷ [])
     × (after 80 (begun initial_values None x 1 false) ≡ None)

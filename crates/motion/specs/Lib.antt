@@ -1,4 +1,6 @@
+pub mod Limits
 pub mod Values
+pub mod Settings
 pub mod Distances
 pub mod Motions
 pub mod Ticks

@@ -1,25 +1,26 @@
-// How many steps a movement makes, and in which sense.
+//! How many steps a movement makes, and in which direction.
 ghost use Rattle.std.specs.Prelude.{◌≡◌};
 ghost use Rattle.motion.specs.Distances.{distance_to};
 
-use senses::Sense;
+use steps::Direction;
 
+/// A number of steps in a direction.
 #[derive(Clone, Copy)]
 pub struct Distance {
-    pub sense: Sense,
+    pub direction: Direction,
     pub steps: u32,
 }
 
 impl Distance {
-    // The plain difference from the counter, its sign being the sense.
+    /// From the counter to the goal, both in steps: the plain difference, its sign being the direction.
     pub fn to(goal: i32, counter: i32) -> Distance
         ensures { result ≡ distance_to goal counter }
     {
         Distance {
-            sense: if goal < counter {
-                Sense::Back
+            direction: if goal < counter {
+                Direction::Back
             } else {
-                Sense::Forward
+                Direction::Forward
             },
             steps: goal.abs_diff(counter),
         }

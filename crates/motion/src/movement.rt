@@ -1,16 +1,16 @@
-// A movement that goes on.
+//! A movement that goes on.
 ghost use Rattle.std.specs.Prelude.{◌+◌, ◌^◌, ◌<◌, ◌≤◌};
 
-use crate::parameters::Speed;
-use senses::Sense;
+use steps::Direction;
 
 mod starts;
 mod stops;
 mod ticks;
 
+/// A movement of at least one step that goes on, tick by tick.
 #[derive(Clone, Copy)]
 pub struct Movement {
-    sense: Sense,
+    direction: Direction,
     // r, the steps left
     left: u32,
     // k, how many ticks up the slope it is
@@ -19,12 +19,14 @@ pub struct Movement {
     up: u32,
     // a: each tick adds the speed to it, each step takes 40,000 from it
     accumulated: u32,
-    // VN, P and K
-    start: Speed,
-    plateau: Speed,
+    // VN and P, in steps per second
+    start: u16,
+    plateau: u16,
+    // K, the ticks of the whole slope
     top: u32,
-    // Two flags and no enum: NV (at VN throughout) is set at the start, GE comes later, and the rules ask for each by itself.
+    // NV: at VN throughout
     constant: bool,
+    // GE was given
     stopping: bool,
     ghost goes: { 1 ≤ left },
     ghost room: { up + left < 2 ^ 32 },
@@ -32,5 +34,7 @@ pub struct Movement {
     ghost ramps: { ramp ≤ top },
     ghost shortest: { 1 ≤ top },
     ghost longest: { top ≤ 2600000 },
-    ghost order: { start.value ≤ plateau.value },
+    ghost least: { 20 ≤ start },
+    ghost order: { start ≤ plateau },
+    ghost most: { plateau ≤ 20000 },
 }

@@ -1,113 +1,97 @@
--- What an accepted line sets the counter to has 24 bits.
-use Rattle.std.proofs.Common.{◌≡◌, ℕ, Bool, true, false, ◌&&◌, List, ℤ, pos, negsuc, ◌≤ℤ◌, Some, Ok, Option, Result, subst, arith}
-use borrow.Author.Differences.{ints}
-use lib.Signed.{le_z}
-use Rattle.std.proofs.lemmas.Bool.{and_parts}
+-- What the rows have shown of an accepted order.
+use Rattle.std.proofs.Common.{◌≡◌, ℕ, ◌≤◌, Bool, true, List, ℤ, Ok, Err, Result, refl, subst, arith}
 use Rattle.faults.specs.declared.Fault.{Fault}
 use Rattle.faults.specs.Faults.{and_then, past_limit}
 use Rattle.faults.proofs.Results.{then_ok, tested}
 use Rattle.lines.specs.declared.line.Addressee.{Addressee}
 use Rattle.lines.specs.declared.line.Addressee.TheVariants.{Own, Broadcast, Stranger}
 use Rattle.lines.specs.Lines.{Kept, addressee_in}
-use Rattle.commands.specs.declared.command.Command.{Command}
-use Rattle.commands.specs.declared.command.Command.TheVariants.{StartSpeed, PlateauSpeed, Slope, Distance, Forward, Back, ZeroCounter, SetCounter, Move, MoveToOrigin, MoveTo, SlowStop, PowerOn, PowerOff, SetOutputs, Create, Erase, Choose, Start, Write, ReadPhase, Restart, ReadParameters, ReadPosition, ReadVersion, ReadFault}
-use Rattle.commands.specs.Reading.{command_behind}
-use Rattle.values.specs.Values.{sequence_value, address_values, block_values, erase_value, sp_values}
+use Rattle.steps.specs.Limits.{is_position}
 use Rattle.store.specs.declared.directory.Block.{Block}
+use Rattle.store.specs.Records.{located, create_answer}
+use Rattle.store.specs.Stores.{Store}
+use Rattle.fields.specs.declared.fields.RawPosition.{RawPosition}
+use Rattle.fields.specs.Values.{erase_value, block_values, position_values, sp_values}
+use Rattle.orders.specs.declared.command.Command.{Command}
+use Rattle.orders.specs.declared.command.Command.TheVariants.{StartSpeed, PlateauSpeed, Slope, Distance, Forward, Back, ZeroCounter, SetCounter, Move, MoveToOrigin, MoveTo, SlowStop, PowerOn, PowerOff, SetOutputs, Create, Erase, Choose, Start, Write, ReadPhase, Restart, ReadParameters, ReadPosition, ReadVersion, ReadFault}
 use Rattle.orders.specs.declared.order.Situation.{Situation}
 use Rattle.orders.specs.declared.order.Order.{Order}
-use Rattle.orders.specs.declared.order.Order.TheVariants as order
+use Rattle.orders.specs.Reading.{command_after}
 use Rattle.orders.specs.State.{state_row}
-use Rattle.orders.specs.Store.{store_row}
-use Rattle.orders.specs.Values.{start_speed, plateau_speed, slope, distance, position, outputs, values_row}
-use Rattle.orders.specs.Judged.{by_rows, judged_to, judged}
+use Rattle.orders.specs.Values.{speed, in_order, start_speed, plateau_speed, slope, distance, position, outputs, existing, creatable, order_of}
+use Rattle.orders.specs.Judged.{judged_from, judged_to, judged, ShownOf, Admitted}
 
--- a number that DP takes
-abbrev pub Within : ℤ → Type 0
-Within z = (negsuc 8388605 ≤ℤ z) × (z ≤ℤ pos 8388606)
+in_order_of : (start plateau : ℕ) → in_order start plateau ≡ Ok tt → start ≤ plateau
+in_order_of start plateau e = grind arith
 
-abbrev pub CounterFits : Order → Type 0
-CounterFits (order.StartSpeed n) = Unit {0}
-CounterFits (order.PlateauSpeed n) = Unit {0}
-CounterFits (order.Slope n) = Unit {0}
-CounterFits (order.Distance n) = Unit {0}
-CounterFits order.Forward = Unit {0}
-CounterFits order.Back = Unit {0}
-CounterFits order.ZeroCounter = Unit {0}
-CounterFits (order.SetCounter n) = Within n
-CounterFits order.Move = Unit {0}
-CounterFits order.MoveToOrigin = Unit {0}
-CounterFits (order.MoveTo n) = Unit {0}
-CounterFits order.SlowStop = Unit {0}
-CounterFits order.PowerOn = Unit {0}
-CounterFits order.PowerOff = Unit {0}
-CounterFits (order.SetOutputs n) = Unit {0}
-CounterFits (order.Create b) = Unit {0}
-CounterFits (order.Erase n) = Unit {0}
-CounterFits (order.Choose n) = Unit {0}
-CounterFits (order.Start n) = Unit {0}
-CounterFits (order.Write at p) = Unit {0}
-CounterFits (order.ReadPhase at) = Unit {0}
-CounterFits order.Restart = Unit {0}
-CounterFits order.ReadParameters = Unit {0}
-CounterFits order.ReadPosition = Unit {0}
-CounterFits order.ReadVersion = Unit {0}
-CounterFits order.ReadFault = Unit {0}
+start_most : (plateau n v : ℕ) → start_speed plateau n ≡ Ok v → v ≤ plateau
+start_most plateau n v e =
+    let t = then_ok (speed n) _ v e in
+    let u = then_ok (in_order t.0 plateau) _ v t.1.1 in
+    let k : t.0 ≡ v = cc u.1.1 in
+    subst (λ x. x ≤ plateau) k (in_order_of t.0 plateau u.1.0)
 
-le_true : (x y : ℤ) → le_z x y ≡ true → x ≤ℤ y
-le_true x y e = grind (arith, ints)
+plateau_least : (start n v : ℕ) → plateau_speed start n ≡ Ok v → start ≤ v
+plateau_least start n v e =
+    let t = then_ok (speed n) _ v e in
+    let u = then_ok (in_order start t.0) _ v t.1.1 in
+    let k : t.0 ≡ v = cc u.1.1 in
+    subst (λ x. start ≤ x) k (in_order_of start t.0 u.1.0)
 
-position_fits : (z x : ℤ) → position z ≡ Ok x → Within x
-position_fits z x e =
-    let t = tested (le_z (negsuc 8388605) z && le_z z (pos 8388606)) z x (past_limit 2) e in
-    let h = and_parts _ _ t.0 in
-    subst Within t.1 (le_true (negsuc 8388605) z h.0, le_true z (pos 8388606) h.1)
+created_answer : (bs : List Block) (a : RawPosition) (b : Block) → creatable bs a ≡ Ok b → create_answer bs b.number b.reserve ≡ Ok tt
+created_answer bs a b e =
+    let t = then_ok (block_values a) _ b e in
+    let u = then_ok (create_answer bs t.0.number t.0.reserve) _ b t.1.1 in
+    let k : t.0 ≡ b = cc u.1.1 in
+    subst (λ (x : Block). create_answer bs x.number x.reserve ≡ Ok tt) k u.1.0
 
-values_fit : (at : Situation) (c : Command) (o : Order) → values_row at c ≡ Ok o → CounterFits o
-values_fit at (StartSpeed n) o e = let t = then_ok (start_speed at.plateau_speed n) _ o e in let k : order.StartSpeed t.0 ≡ o = cc t.1.1 in subst CounterFits k tt
-values_fit at (PlateauSpeed n) o e = let t = then_ok (plateau_speed at.start_speed n) _ o e in let k : order.PlateauSpeed t.0 ≡ o = cc t.1.1 in subst CounterFits k tt
-values_fit at (Slope n) o e = let t = then_ok (slope n) _ o e in let k : order.Slope t.0 ≡ o = cc t.1.1 in subst CounterFits k tt
-values_fit at (Distance n) o e = let t = then_ok (distance n) _ o e in let k : order.Distance t.0 ≡ o = cc t.1.1 in subst CounterFits k tt
-values_fit at Forward o e = let k : order.Forward ≡ o = cc in subst CounterFits k tt
-values_fit at Back o e = let k : order.Back ≡ o = cc in subst CounterFits k tt
-values_fit at ZeroCounter o e = let k : order.ZeroCounter ≡ o = cc in subst CounterFits k tt
-values_fit at (SetCounter z) o e = let t = then_ok (position z) _ o e in let k : order.SetCounter t.0 ≡ o = cc t.1.1 in subst CounterFits k (position_fits z t.0 t.1.0)
-values_fit at Move o e = let k : order.Move ≡ o = cc in subst CounterFits k tt
-values_fit at MoveToOrigin o e = let k : order.MoveToOrigin ≡ o = cc in subst CounterFits k tt
-values_fit at (MoveTo n) o e = let t = then_ok (position n) _ o e in let k : order.MoveTo t.0 ≡ o = cc t.1.1 in subst CounterFits k tt
-values_fit at SlowStop o e = let k : order.SlowStop ≡ o = cc in subst CounterFits k tt
-values_fit at PowerOn o e = let k : order.PowerOn ≡ o = cc in subst CounterFits k tt
-values_fit at PowerOff o e = let k : order.PowerOff ≡ o = cc in subst CounterFits k tt
-values_fit at (SetOutputs n) o e = let t = then_ok (outputs n) _ o e in let k : order.SetOutputs t.0 ≡ o = cc t.1.1 in subst CounterFits k tt
-values_fit at (Create a) o e = let t = then_ok (block_values a) _ o e in let k : order.Create t.0 ≡ o = cc t.1.1 in subst CounterFits k tt
-values_fit at (Erase n) o e = let t = then_ok (erase_value n) _ o e in let k : order.Erase t.0 ≡ o = cc t.1.1 in subst CounterFits k tt
-values_fit at (Choose n) o e = let t = then_ok (sequence_value n) _ o e in let k : order.Choose t.0 ≡ o = cc t.1.1 in subst CounterFits k tt
-values_fit at (Start n) o e = let t = then_ok (sequence_value n) _ o e in let k : order.Start t.0 ≡ o = cc t.1.1 in subst CounterFits k tt
-values_fit at (Write n) o e = let t = then_ok (sp_values n) _ o e in let k : order.Write t.0.0 t.0.1 ≡ o = cc t.1.1 in subst CounterFits k tt
-values_fit at (ReadPhase a) o e = let t = then_ok (address_values a) _ o e in let k : order.ReadPhase t.0 ≡ o = cc t.1.1 in subst CounterFits k tt
-values_fit at Restart o e = let k : order.Restart ≡ o = cc in subst CounterFits k tt
-values_fit at ReadParameters o e = let k : order.ReadParameters ≡ o = cc in subst CounterFits k tt
-values_fit at ReadPosition o e = let k : order.ReadPosition ≡ o = cc in subst CounterFits k tt
-values_fit at ReadVersion o e = let k : order.ReadVersion ≡ o = cc in subst CounterFits k tt
-values_fit at ReadFault o e = let k : order.ReadFault ≡ o = cc in subst CounterFits k tt
+position_within : (z x : ℤ) → position z ≡ Ok x → is_position x ≡ true
+position_within z x e =
+    let t = tested (is_position z) z x (past_limit 2) e in
+    subst (λ y. is_position y ≡ true) t.1 t.0
 
-rows_fit : (at : Situation) (bs : List Block) (r : Result Command Fault) (o : Order) → and_then r (by_rows at bs) ≡ Ok o → CounterFits o
-rows_fit at bs r o e =
-    let c = then_ok r _ o e in
-    let s = then_ok (state_row at.busy c.0) _ o c.1.1 in
-    let v = then_ok (values_row at c.0) _ o s.1.1 in
-    let r = then_ok (store_row bs v.0) _ o v.1.1 in
-    let same : v.0 ≡ o = cc r.1.1 in
-    subst CounterFits same (values_fit at c.0 v.0 v.1.0)
+module _ (at : Situation) (s : Store) where
+  -- of a reading that leads to an order, what is shown of the order
+  after_value : {A : Type 0} (r : Result A Fault) (f : A → Result Order Fault) → ((x : A) → r ≡ Ok x → ShownOf at s (f x)) → ShownOf at s (and_then r f)
+  after_value (Ok x) f h = h x refl
+  after_value (Err e) f h = tt
 
-some_ok : (r : Result Order Fault) (o : Order) → ◌≡◌ {A = Option (Result Order Fault)} (Some r) (Some (Ok o)) → r ≡ Ok o
-some_ok r o e = cc
+  order_shown : (c : Command) → ShownOf at s (order_of at s c)
+  order_shown (StartSpeed n) = after_value (start_speed at.plateau_speed n) _ (start_most at.plateau_speed n)
+  order_shown (PlateauSpeed n) = after_value (plateau_speed at.start_speed n) _ (plateau_least at.start_speed n)
+  order_shown (Slope n) = after_value (slope n) _ (λ x e. tt)
+  order_shown (Distance n) = after_value (distance n) _ (λ x e. tt)
+  order_shown (SetCounter z) = after_value (position z) _ (position_within z)
+  order_shown (MoveTo z) = after_value (position z) _ (λ x e. tt)
+  order_shown (SetOutputs n) = after_value (outputs n) _ (λ x e. tt)
+  order_shown (Create a) = after_value (creatable s.blocks a) _ (created_answer s.blocks a)
+  order_shown (Erase n) = after_value (erase_value n) _ (λ x e. tt)
+  order_shown (Choose n) = after_value (existing s.blocks n) _ (λ x e. tt)
+  order_shown (Start n) = after_value (existing s.blocks n) _ (λ x e. tt)
+  order_shown (Write p) = after_value (sp_values p) _ (λ a e. after_value (located s.blocks a.0.sequence a.0.phase) _ (λ i f. (a.0, f)))
+  order_shown (ReadPhase a) = after_value (position_values a) _ (λ p e. after_value (located s.blocks p.sequence p.phase) _ (λ i f. tt))
+  order_shown Forward = tt
+  order_shown Back = tt
+  order_shown ZeroCounter = tt
+  order_shown Move = tt
+  order_shown MoveToOrigin = tt
+  order_shown SlowStop = tt
+  order_shown PowerOn = tt
+  order_shown PowerOff = tt
+  order_shown Restart = tt
+  order_shown ReadParameters = tt
+  order_shown ReadPosition = tt
+  order_shown ReadVersion = tt
+  order_shown ReadFault = tt
 
-to_fits : (to : Addressee) (at : Situation) (bs : List Block) (k : Kept) (o : Order) → judged_to to at bs k ≡ Some (Ok o) → CounterFits o
-to_fits Own at bs k o e = rows_fit at bs (command_behind 2 false k) o (some_ok _ o e)
-to_fits Broadcast at bs k o e = rows_fit at bs (command_behind 0 true k) o (some_ok _ o e)
-to_fits Stranger at bs k o e = cc
+  -- of a line, read from a character on
+  pub judged_shown : (from : ℕ) (broadcast : Bool) (k : Kept) → ShownOf at s (judged_from from broadcast at s k)
+  judged_shown from broadcast k = after_value (command_after from broadcast k) _ (λ c e. after_value (state_row at.busy c) _ (λ u f. order_shown c))
 
--- an accepted DP has its number within the limits
-pub accepted_fits : (at : Situation) (bs : List Block) (k : Kept) (o : Order) → judged at bs k ≡ Some (Ok o) → CounterFits o
-accepted_fits at bs k o e = to_fits (addressee_in at.address k) at bs k o e
+  to_shown : (to : Addressee) (k : Kept) → Admitted at s (judged_to to at s k)
+  to_shown Own k = judged_shown 2 _ k
+  to_shown Broadcast k = judged_shown 0 _ k
+  to_shown Stranger k = tt
+
+  pub admitted : (k : Kept) → Admitted at s (judged at s k)
+  admitted k = to_shown (addressee_in at.address k) k

@@ -1,4 +1,6 @@
+pub mod Names
+pub mod Reading
 pub mod State
 pub mod Values
-pub mod Store
 pub mod Judged
+pub mod Intentions

@@ -28,7 +28,7 @@ half_pattern = pattern_of half_cycle half_patterns
 
 -- The output k places further forward, with the same power.
 abbrev pub further : ℕ → Meaning → Meaning
-further k m = record { place = (m.place + k) % 2 ^ 24; power = m.power }
+further k m = record m { place = (m.place + k) % 2 ^ 24 }
 
 -- The lines repeat after exactly `cycle` places: they depend on power and the place within the cycle alone, they are
 -- the same a cycle further, and a smaller number of places further they are not everywhere the same.

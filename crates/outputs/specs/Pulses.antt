@@ -1,11 +1,11 @@
 -- The pulse counts of a pulse output, what a step adds to them, and the place that they give.
 use Rattle.std.specs.Prelude.{ℕ, ◌+◌, ◌-◌, ◌%◌, ◌^◌, Bool, cond}
-use Rattle.senses.specs.declared.Sense.{Sense}
-use Rattle.senses.specs.declared.Sense.TheVariants.{Forward, Back}
+use Rattle.steps.specs.declared.direction.Direction.{Direction}
+use Rattle.steps.specs.declared.direction.Direction.TheVariants.{Forward, Back}
 use Rattle.outputs.specs.Meaning.{Meaning}
 use Rattle.outputs.specs.declared.pulse.PulseOutput.{PulseOutput}
 
--- The pulses sent in each sense, modulo 2^32.
+-- The pulses sent in each direction, modulo 2^32.
 pub record Pulses : Type 0 where
   pub forward : ℕ
   pub back : ℕ
@@ -20,10 +20,10 @@ pulses o = record { forward = o.forward; back = o.back }
 abbrev pub one_more : Bool → ℕ → ℕ
 one_more power count = cond power ((count + 1) % 2 ^ 32) count
 
--- A step adds one pulse to the count of its sense, and leaves the other.
-abbrev pub counted : Sense → Bool → Pulses → Pulses
-counted Forward power p = record { forward = one_more power p.forward; back = p.back }
-counted Back power p = record { forward = p.forward; back = one_more power p.back }
+-- A step adds one pulse to the count of its direction, and leaves the other.
+abbrev pub counted : Direction → Bool → Pulses → Pulses
+counted Forward power p = record p { forward = one_more power p.forward }
+counted Back power p = record p { back = one_more power p.back }
 
 -- The place is the pulses forward less the pulses back, modulo 2^24.
 abbrev pub pulse_meaning : PulseOutput → Meaning

@@ -1,4 +1,4 @@
-// Full steps: a cycle of four line patterns, with both coils on at each place.
+//! Full steps: a cycle of four line patterns, with both coils on at each place.
 ghost use Rattle.std.specs.Prelude.{refl};
 ghost use Rattle.outputs.specs.Patterns.{full_cycle, full_patterns};
 ghost use Rattle.outputs.specs.Repeating.{full_repeats};
@@ -8,6 +8,7 @@ use crate::motor_coils::MotorCoils;
 
 const PATTERNS: [u8; 4] = [5, 6, 10, 9];
 
+/// Full steps: four patterns, with both coils on at each place.
 pub struct FullStep;
 
 impl Drive for FullStep {
@@ -28,5 +29,5 @@ impl Drive for FullStep {
     ghost repeats = { full_repeats };
 }
 
-// The coils of a motor driven in full steps.
+/// The coils of a motor driven in full steps.
 pub type FullStepCoils = MotorCoils<FullStep>;

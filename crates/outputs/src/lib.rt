@@ -1,4 +1,4 @@
-// Step outputs: what every output does, the coils of a motor in full and in half steps, and counted pulses.
+//! Step outputs: what every output does, the coils of a motor in full and in half steps, and counted pulses.
 #![tactic(auto)]
 
 pub mod drive;
@@ -8,8 +8,6 @@ pub mod line_output;
 pub mod motor_coils;
 pub mod pulse;
 pub mod step_output;
-#[cfg(test)]
-mod tests;
 
 pub use drive::Drive;
 pub use full_step::{FullStep, FullStepCoils};

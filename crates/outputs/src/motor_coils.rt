@@ -1,4 +1,4 @@
-// The coils of a motor: a place among 2^24, as an index into the cycle of the drive and a number of whole cycles, and power.
+//! The coils of a motor: a place among 2^24, as an index into the cycle of the drive and a number of whole cycles, and power.
 ghost use Rattle.std.specs.Prelude.{◌+◌, ◌*◌, ◌^◌, ◌<◌, ◌≤◌};
 
 use crate::drive::Drive;
@@ -7,6 +7,7 @@ use std::marker::PhantomData;
 mod cycle;
 mod output;
 
+/// The coils of a motor under a drive: a place of 0 to 16,777,215, and power.
 #[derive(Drop)]
 pub struct MotorCoils<D: Drive> {
     index: u32,

@@ -4,8 +4,8 @@ use Rattle.std.proofs.lemmas.Bool.{and_parts}
 use Rattle.std.specs.Option.{option_eq}
 use Rattle.std.specs.Ordering.{int_eq}
 use Rattle.std.proofs.Math.Bool.{beq}
-use Rattle.senses.specs.declared.Sense.{Sense}
-use Rattle.senses.specs.contracts.SensePartialEq.TheImpl as sense_impl
+use Rattle.steps.specs.declared.direction.Direction.{Direction}
+use Rattle.steps.specs.contracts.direction.DirectionPartialEq.TheImpl as direction_impl
 use Rattle.phases.specs.declared.phase.Phase.{Phase}
 use Rattle.phases.specs.declared.phase.Nature.{Nature}
 use Rattle.phases.specs.declared.phase.Inputs.{Inputs}
@@ -18,8 +18,8 @@ use Rattle.phases.specs.contracts.phase.InputsPartialEq.TheImpl as inputs_impl
 written_same : (a b : Bool) → beq a b ≡ true → a ≡ b
 written_same a b e = search (rules, e)
 
-sense_same : (a b : Sense) → sense_impl.ghosts.eq a b ≡ true → a ≡ b
-sense_same a b e = search (rules, e)
+direction_same : (a b : Direction) → direction_impl.ghosts.eq a b ≡ true → a ≡ b
+direction_same a b e = search (rules, e)
 
 nature_same : (a b : Nature) → nature_impl.ghosts.eq a b ≡ true → a ≡ b
 nature_same a b e = search (rules, e)
@@ -52,44 +52,37 @@ module _ (link_eq : Link ℕ → Link ℕ → Bool) where
   tests : Phase → Phase → Bool
   tests a b =
       beq a.written b.written
-      && (sense_impl.ghosts.eq a.sense b.sense
+      && (direction_impl.ghosts.eq a.direction b.direction
       && (nature_impl.ghosts.eq a.nature b.nature
       && (int_eq a.set_point b.set_point
       && (option_eq link_eq a.link b.link
       && (inputs_impl.ghosts.eq a.inputs b.inputs && (option_eq nat_eq a.next b.next && option_eq nat_eq a.outputs b.outputs))))))
 
-phase_of : Bool → Sense → Nature → ℤ → Option (Link ℕ) → Inputs → Option ℕ → Option ℕ → Phase
-phase_of written sense nature set_point link inputs next outputs = record {
-  written = written;
-  sense = sense;
-  nature = nature;
-  set_point = set_point;
-  link = link;
-  inputs = inputs;
-  next = next;
-  outputs = outputs;
-}
-
 -- phases with equal fields are equal
-module _ (a b : Phase) (written : a.written ≡ b.written) (sense : a.sense ≡ b.sense) (nature : a.nature ≡ b.nature) (set_point : a.set_point ≡ b.set_point) (link : a.link ≡ b.link) (inputs : a.inputs ≡ b.inputs) (next : a.next ≡ b.next) (outputs : a.outputs ≡ b.outputs) where
-  parts_are : phase_of a.written a.sense a.nature a.set_point a.link a.inputs a.next a.outputs ≡ phase_of b.written b.sense b.nature b.set_point b.link b.inputs b.next b.outputs
-  parts_are = cc
-
+module _ (a b : Phase) (written : a.written ≡ b.written) (direction : a.direction ≡ b.direction) (nature : a.nature ≡ b.nature) (set_point : a.set_point ≡ b.set_point) (link : a.link ≡ b.link) (inputs : a.inputs ≡ b.inputs) (next : a.next ≡ b.next) (outputs : a.outputs ≡ b.outputs) where
   fields_are : a ≡ b
-  unfolding phase_of
-  fields_are = parts_are
+  fields_are = λ i. record {
+    written = written i;
+    direction = direction i;
+    nature = nature i;
+    set_point = set_point i;
+    link = link i;
+    inputs = inputs i;
+    next = next i;
+    outputs = outputs i;
+  }
 
 same_tests : (f : Link ℕ → Link ℕ → Bool) → ((x y : Link ℕ) → f x y ≡ true → x ≡ y) → (a b : Phase) → tests f a b ≡ true → a ≡ b
 unfolding tests
 same_tests f h a b e =
     let e1 = and_parts (beq a.written b.written) _ e in
-    let e2 = and_parts (sense_impl.ghosts.eq a.sense b.sense) _ e1.1 in
+    let e2 = and_parts (direction_impl.ghosts.eq a.direction b.direction) _ e1.1 in
     let e3 = and_parts (nature_impl.ghosts.eq a.nature b.nature) _ e2.1 in
     let e4 = and_parts (int_eq a.set_point b.set_point) _ e3.1 in
     let e5 = and_parts (option_eq f a.link b.link) _ e4.1 in
     let e6 = and_parts (inputs_impl.ghosts.eq a.inputs b.inputs) _ e5.1 in
     let e7 = and_parts (option_eq nat_eq a.next b.next) (option_eq nat_eq a.outputs b.outputs) e6.1 in
-    fields_are a b (written_same _ _ e1.0) (sense_same _ _ e2.0) (nature_same _ _ e3.0) (set_point_same _ _ e4.0) (option_same f h _ _ e5.0) (inputs_same _ _ e6.0) (option_same nat_eq number_same _ _ e7.0) (option_same nat_eq number_same _ _ e7.1)
+    fields_are a b (written_same _ _ e1.0) (direction_same _ _ e2.0) (nature_same _ _ e3.0) (set_point_same _ _ e4.0) (option_same f h _ _ e5.0) (inputs_same _ _ e6.0) (option_same nat_eq number_same _ _ e7.0) (option_same nat_eq number_same _ _ e7.1)
 
 pub phase_same : (a b : Phase) → phase_impl.ghosts.eq a b ≡ true → a ≡ b
 unfolding tests

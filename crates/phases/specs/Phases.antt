@@ -1,7 +1,9 @@
 -- What a record of the phase memory means.
-use Rattle.std.specs.Prelude.{ℕ, Bool, true, false, ◌&&◌, ◌||◌, ℤ, pos, negsuc, Option, ◌==◌, bit_and, int_le, nat_le}
+use Rattle.std.specs.Prelude.{ℕ, Bool, true, false, ◌&&◌, ◌||◌, List, [], ◌∷◌, ℤ, pos, codes, Option, ◌==◌, bit_and, find, nat_le}
+use Rattle.std.specs.Str.{bytes_eq}
 use Rattle.std.specs.declared.option.Option.TheVariants as option
-use Rattle.senses.specs.declared.Sense.TheVariants.{Forward}
+use Rattle.steps.specs.declared.direction.Direction.TheVariants.{Forward}
+use Rattle.steps.specs.Limits.{between, is_position}
 use Rattle.phases.specs.declared.phase.Nature.{Nature}
 use Rattle.phases.specs.declared.phase.Nature.TheVariants.{Relative, Origin, Absolute, ConstantSpeed, Wait, ZeroCounter, PlateauSpeed, PowerOn, PowerOff}
 use Rattle.phases.specs.declared.phase.Inputs.{Inputs}
@@ -9,20 +11,33 @@ use Rattle.phases.specs.declared.phase.Link.{Link}
 use Rattle.phases.specs.declared.phase.Link.TheVariants as link
 use Rattle.phases.specs.declared.phase.Phase.{Phase}
 
-abbrev pub between : ℤ → ℤ → ℤ → Bool
-between low high z = int_le low z && int_le z high
+-- the two letters of a nature, in a line and in a read-back text
+abbrev pub letters_of : Nature → List ℕ
+letters_of Relative = codes "NP"
+letters_of Origin = codes "NH"
+letters_of Absolute = codes "NX"
+letters_of ConstantSpeed = codes "NV"
+letters_of Wait = codes "NW"
+letters_of ZeroCounter = codes "NZ"
+letters_of PlateauSpeed = codes "NC"
+letters_of PowerOn = codes "NT"
+letters_of PowerOff = codes "NU"
+
+abbrev pub natures : List Nature
+natures = Relative ∷ Origin ∷ Absolute ∷ ConstantSpeed ∷ Wait ∷ ZeroCounter ∷ PlateauSpeed ∷ PowerOn ∷ PowerOff ∷ []
+
+-- the nature that has these letters
+abbrev pub nature_of : List ℕ → Option Nature
+nature_of w = find (λ k. bytes_eq w (letters_of k)) natures
 
 -- the limits of the set point, by nature
 abbrev pub SetPointFits : Nature → ℤ → Bool
 SetPointFits Relative z = between (pos 0) (pos 999998) z
 SetPointFits ConstantSpeed z = between (pos 0) (pos 999998) z
-SetPointFits Absolute z = between (negsuc 8388605) (pos 8388606) z
+SetPointFits Absolute z = is_position z
 SetPointFits Wait z = between (pos 1) (pos 65000) z
 SetPointFits PlateauSpeed z = between (pos 20) (pos 20000) z
-SetPointFits Origin z = between (pos 0) (pos 0) z
-SetPointFits ZeroCounter z = between (pos 0) (pos 0) z
-SetPointFits PowerOn z = between (pos 0) (pos 0) z
-SetPointFits PowerOff z = between (pos 0) (pos 0) z
+SetPointFits _ z = between (pos 0) (pos 0) z
 
 abbrev pub SequenceNumber : ℕ → Bool
 SequenceNumber n = nat_le 1 n && nat_le n 99
@@ -47,14 +62,14 @@ LevelsFit i = bit_and i.named i.levels == i.levels
 abbrev pub InLimits : Phase → Bool
 InLimits p = SetPointFits p.nature p.set_point && (LinkFits p.link && (NextFits p.next && LevelsFit p.inputs))
 
--- a record with a field beyond its limits counts as unwritten
+-- what counts as written: the mark says so, and no field is beyond its limits
 abbrev pub Written : Phase → Bool
 Written p = p.written && InLimits p
 
 abbrev pub blank : Phase
 blank = record {
   written = false;
-  sense = Forward;
+  direction = Forward;
   nature = Relative;
   set_point = pos 0;
   link = option.None;

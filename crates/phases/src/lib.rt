@@ -1,4 +1,4 @@
-// The record of a phase and its limits.
+//! The record of a phase and its limits.
 #![tactic(auto)]
 
 mod phase;

@@ -1,10 +1,10 @@
-// One phase of a sequence.
+//! One phase of a sequence.
 ghost use Rattle.std.specs.Prelude.{◌≡◌};
-ghost use Rattle.phases.specs.Phases.{Written, InLimits, SetPointFits, SequenceNumber, number_of, NextFits, LevelsFit, blank};
+ghost use Rattle.phases.specs.Phases.{Written, InLimits, SetPointFits, SequenceNumber, number_of, NextFits, LevelsFit, blank, letters_of, nature_of};
 
-use senses::Sense;
+use steps::Direction;
 
-// What a phase does, with the letters of the line.
+/// What a phase does.
 #[derive(Clone, Copy, PartialEq, Eq)]
 pub enum Nature {
     Relative,
@@ -18,33 +18,33 @@ pub enum Nature {
     PowerOff,
 }
 
-// How a phase goes on with another sequence: for good, or as a sub-sequence, which returns.
+/// How a phase goes on with another sequence: for good, or as a sub-sequence, which returns.
 #[derive(Clone, Copy, PartialEq, Eq)]
 pub enum Link<N> {
     Sequence(N),
     SubSequence(N),
 }
 
-// The inputs that a phase names, and the levels that it asks of them, one bit for each input.
+/// The inputs that a phase names, and the levels that it asks of them, one bit for each input.
 #[derive(Clone, Copy, PartialEq, Eq)]
 pub struct Inputs {
     pub named: u8,
     pub levels: u8,
 }
 
-// A phase of a sequence, both by number.
+/// A phase of a sequence, each by its number.
 #[derive(Clone, Copy, PartialEq, Eq)]
 pub struct Position {
     pub sequence: u8,
     pub phase: u8,
 }
 
-// A record as the caller of the module lends it. The mark `written` stays beside fields that may hold anything: an Option of a
-// record would not let the caller lend an unwritten one that does.
+/// A record of the phase memory, which the caller of the module lends. The fields may hold anything: a record counts as written
+/// only where it is marked so and each field lies within its limits.
 #[derive(Clone, Copy, PartialEq, Eq)]
 pub struct Phase {
     pub written: bool,
-    pub sense: Sense,
+    pub direction: Direction,
     pub nature: Nature,
     pub set_point: i32,
     pub link: Option<Link<u8>>,
@@ -54,18 +54,58 @@ pub struct Phase {
 }
 
 impl Nature {
-    // Whether the set point lies within the limits of the nature.
+    // Every nature.
+    const ALL: [Nature; 9] = [
+        Nature::Relative,
+        Nature::Origin,
+        Nature::Absolute,
+        Nature::ConstantSpeed,
+        Nature::Wait,
+        Nature::ZeroCounter,
+        Nature::PlateauSpeed,
+        Nature::PowerOn,
+        Nature::PowerOff,
+    ];
+
+    /// The two letters of the nature, in a line and in a read-back text.
+    pub fn letters(self) -> &'static [u8; 2]
+        ensures { result.now ≡ letters_of self }
+    {
+        match self {
+            Nature::Relative => b"NP",
+            Nature::Origin => b"NH",
+            Nature::Absolute => b"NX",
+            Nature::ConstantSpeed => b"NV",
+            Nature::Wait => b"NW",
+            Nature::ZeroCounter => b"NZ",
+            Nature::PlateauSpeed => b"NC",
+            Nature::PowerOn => b"NT",
+            Nature::PowerOff => b"NU",
+        }
+    }
+
+    /// The nature of these letters, or None where no nature has them.
+    pub fn of_letters(letters: &[u8]) -> Option<Nature>
+        ensures { result ≡ nature_of letters.now }
+    {
+        Nature::ALL
+            .iter()
+            .copied()
+            .find(|nature| letters == nature.letters().as_slice())
+    }
+
+    /// Whether the set point lies within the limits of the nature.
     pub fn takes(self, set_point: i64) -> bool
         ensures { result ≡ SetPointFits self set_point }
     {
         match self {
-            Nature::Relative | Nature::ConstantSpeed => (0..=999_998).contains(&set_point),
-            Nature::Absolute => (-8_388_606..=8_388_606).contains(&set_point),
-            Nature::Wait => (1..=65_000).contains(&set_point),
-            Nature::PlateauSpeed => (20..=20_000).contains(&set_point),
-            Nature::Origin | Nature::ZeroCounter | Nature::PowerOn | Nature::PowerOff => {
-                set_point == 0
-            }
+            Nature::Relative | Nature::ConstantSpeed if (0..=999_998).contains(&set_point) => true,
+            Nature::Absolute if (-8_388_606..=8_388_606).contains(&set_point) => true,
+            Nature::Wait if (1..=65_000).contains(&set_point) => true,
+            Nature::PlateauSpeed if (20..=20_000).contains(&set_point) => true,
+            Nature::Origin | Nature::ZeroCounter | Nature::PowerOn | Nature::PowerOff
+                if set_point == 0 => true,
+            _ => false,
         }
     }
 }
@@ -79,7 +119,7 @@ impl Link<u8> {
     }
 }
 
-// Whether a phase can be numbered so, 54 being the stop. A number and no enum: a record that the caller lends may hold any.
+/// Whether a phase can name this as the phase to go on with: none, 1 to 50, or 54, which is the stop.
 pub fn next_fits(next: Option<u8>) -> bool
     ensures { result ≡ NextFits next }
 {
@@ -87,7 +127,7 @@ pub fn next_fits(next: Option<u8>) -> bool
 }
 
 impl Inputs {
-    // No input is named.
+    /// No input is named.
     pub const NONE: Inputs = Inputs {
         named: 0,
         levels: 0,
@@ -102,9 +142,10 @@ impl Inputs {
 }
 
 impl Phase {
+    /// The blank record, which is not written.
     pub const BLANK: Phase = Phase {
         written: false,
-        sense: Sense::Forward,
+        direction: Direction::Forward,
         nature: Nature::Relative,
         set_point: 0,
         link: None,
@@ -123,14 +164,14 @@ impl Phase {
             && self.inputs.fit()
     }
 
-    // A record with a field beyond its limits counts as unwritten.
+    /// Whether the record counts as written: it is marked so, and each field lies within its limits.
     pub fn is_written(&self) -> bool
         ensures { result ≡ Written self.now }
     {
         self.written && self.in_limits()
     }
 
-    // `BLANK` with a contract, which a constant has not.
+    /// The blank record, which is not written.
     pub fn blank() -> Phase
         ensures { result ≡ blank }
     {

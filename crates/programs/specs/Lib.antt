@@ -1,2 +1,5 @@
+pub mod Addresses
 pub mod Ends
-pub mod Words
+pub mod Naming
+pub mod Outputs
+pub mod Requests

@@ -1,7 +1,7 @@
-// The end of a program that failed.
+//! The end of a program that failed.
 use std::io;
 
-// The program ends with status 1; what went wrong has been printed.
+/// The program ends with status 1; what went wrong has been printed.
 #[derive(Drop)]
 pub struct Failed;
 

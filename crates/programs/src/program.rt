@@ -1,22 +1,27 @@
-// A program while it runs.
+//! A program while it runs.
 ghost use Rattle.std.specs.Prelude.{◌≡◌, ◌≤◌, ℕ, List, Ok, OnOk, IsErr};
 ghost use Rattle.std.specs.Borrow.{Bor};
 ghost use Rattle.std.specs.Process.{exit_status};
 ghost use Rattle.programs.specs.Ends.{status_of};
-ghost use Rattle.programs.specs.Words.{name_of};
+ghost use Rattle.programs.specs.Requests.{Followed};
+ghost use Rattle.programs.specs.Naming.{name_of};
 
 use crate::failed::Failed;
-use crate::words::name_of;
+use crate::naming::name_of;
+use crate::request::{Request, WrongUse};
 use std::fmt::Display;
 use std::io::Read;
 use std::process::ExitCode;
 use std::{env, fs, io};
 
-// The runtime, the program's name, and its usage, whose first line says how the arguments are written.
+/// A program that runs.
 #[derive(Clone, Copy)]
 pub struct Program<'a> {
+    /// What it reads, prints and allocates by.
     pub rt: &'a HostRuntime,
+    /// Its name, which stands before what it tells on standard error.
     pub name: &'a str,
+    /// Its usage, whose first line says how the arguments are written.
     pub usage: &'a str,
 }
 
@@ -31,8 +36,8 @@ fn status_of(outcome: Result<(), Failed>) -> ExitCode
 }
 
 impl Program<'_> {
-    // Does what the arguments behind the program's name ask for. No clause can say which arguments the system gives, or that it gives
-    // them, so that status 0 is pinned, and status 1 is not.
+    /// Does what the arguments after the program's name ask for: status 0 where that was done, else 1. Arguments that cannot be read are
+    /// told, with status 1.
     pub fn run<F: FnOnce(&[String]) -> Result<(), Failed>>(&self, follow: F) -> ExitCode
         requires { F.IsAlwaysCallable follow }
         ensures done { exit_status result ≡ 0 → (words : _) × F.post follow words (Ok tt) }
@@ -51,7 +56,7 @@ impl Program<'_> {
         }
     }
 
-    // The arguments behind the program's name.
+    // The arguments after the program's name.
     fn arguments(&self) -> io::Result<Vec<String>> {
         Ok(env::args(self.rt)?.skip(1).collect(self.rt.alloc())?)
     }
@@ -61,7 +66,7 @@ impl Program<'_> {
         eprintln!(self.rt; "{name}: {trouble}")
     }
 
-    // Tells what went wrong.
+    /// Tells what went wrong.
     pub fn fail<M: Display + Drop>(&self, trouble: M) -> Result<(), Failed>
         ensures { IsErr result }
     {
@@ -70,7 +75,7 @@ impl Program<'_> {
     }
 
     // Tells why the arguments cannot be followed, and how they are written.
-    pub fn refuse<M: Display + Drop>(&self, wrong: M) -> Result<(), Failed>
+    fn refuse(&self, wrong: WrongUse) -> Result<(), Failed>
         ensures { IsErr result }
     {
         self.tell(wrong)?;
@@ -78,6 +83,26 @@ impl Program<'_> {
             eprintln!(self.rt; "{usage}")?;
         }
         Err(Failed)
+    }
+
+    /// Does what the arguments ask for: tells the usage, does the work, or tells why they cannot be followed.
+    pub fn follow<T: Drop, F: FnOnce(T) -> Result<(), Failed>>(
+        &self,
+        asked: Result<Request<T>, WrongUse>,
+        work: F,
+    ) -> Result<(), Failed>
+        requires { F.IsAlwaysCallable work }
+        ensures { OnOk result (Followed asked.entry (λ wanted. F.post work wanted (Ok tt))) }
+    {
+        match asked {
+            Ok(Request::Usage) => {
+                let usage = self.usage;
+                println!(self.rt; "{usage}")?;
+                Ok(())
+            }
+            Ok(Request::Work(wanted)) => work(wanted),
+            Err(wrong) => self.refuse(wrong),
+        }
     }
 
     // The bytes of a file, or of standard input for -.
@@ -90,8 +115,8 @@ impl Program<'_> {
         Ok(bytes)
     }
 
-    // Does the program's work on the bytes of a file, with the name that is printed for the file. No clause can say what a file holds,
-    // or that it can be read.
+    /// Does the program's work on the bytes of a file, or of standard input for -, with the name that is printed for it. A file that
+    /// cannot be read is told.
     pub fn with_file<F: FnOnce(&str, &[u8]) -> Result<(), Failed>>(
         &self,
         file: &str,

@@ -1,11 +1,8 @@
-// Proofreads a sequence file: prints what became of each line, and the shelf against the module, and the runs.
+//! Proofreads a sequence file: prints what became of each line, and the shelf against the module, and the runs.
 #![tactic(auto)]
 
-mod request;
-
 use outputs::{FullStepCoils, HalfStepCoils, PulseOutput};
-use programs::{Failed, Program};
-use request::{Output, Request, SheetRequest, read_request};
+use programs::{Failed, Output, Program, SheetRequest, sheet_request};
 use sheet::{Sheet, Unreadable, proofread};
 use std::process::ExitCode;
 
@@ -61,16 +58,12 @@ fn proofread_at(
     print_sheet(program, address, name, sheet)
 }
 
-// Does what the arguments ask for. The requests are the program's own, so that the library of both cannot match them.
-fn follow(program: &Program, words: &[String]) -> Result<(), Failed> {
-    match read_request(words) {
-        Ok(Request::Usage) => Ok(println!(program.rt; "{USAGE}")?),
-        Ok(Request::Sheet(wanted)) => program.with_file(
-            wanted.file,
-            |name, bytes| proofread_at(program, wanted, name, bytes),
-        ),
-        Err(wrong) => program.refuse(wrong),
-    }
+// Proofreads the file that is asked for.
+fn proofread_file(program: &Program, wanted: SheetRequest) -> Result<(), Failed> {
+    program.with_file(
+        wanted.file,
+        |name, bytes| proofread_at(program, wanted, name, bytes),
+    )
 }
 
 fn main(rt: HostRuntime) -> ExitCode {
@@ -79,5 +72,8 @@ fn main(rt: HostRuntime) -> ExitCode {
         name: "proofread",
         usage: USAGE,
     };
-    program.run(|words| follow(&program, words))
+    program.run(|words| program.follow(
+        sheet_request(words),
+        |wanted| proofread_file(&program, wanted),
+    ))
 }

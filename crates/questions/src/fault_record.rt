@@ -1,14 +1,14 @@
-// The answer to the question for the fault last kept.
+//! The answer to the question for the fault last kept.
 ghost use Rattle.std.specs.Prelude.{◌≡◌, ◌+◌, ◌≤◌, IfOk};
 ghost use Rattle.replies.specs.Replies.{Room, Wrote, answered};
-ghost use Rattle.questions.specs.Questions.{figures_in, fault_word, fault_text};
+ghost use Rattle.questions.specs.Questions.{digits_in, fault_word, fault_text};
 
 use faults::Fault;
 use replies::{Reply, check_room};
 
-// The number of decimal figures of a byte.
-fn figures_in(number: u8) -> usize
-    ensures count { result ≡ figures_in number }
+// The number of decimal digits of a byte.
+fn digits_in(number: u8) -> usize
+    ensures count { result ≡ digits_in number }
     ensures few { result ≤ 3 }
 {
     match number {
@@ -29,12 +29,12 @@ fn write_cause(reply: &mut Reply, fault: Option<Fault>)
         None => reply.text(b"N"),
         Some(fault) => {
             let number = fault.cause.number();
-            reply.figures(u32::from(number), figures_in(number));
+            reply.digits(u32::from(number), digits_in(number));
         }
     }
 }
 
-// Answers with the number of the fault's cause, or N for none.
+/// Answers with the number of the fault's cause, or N for none. A buffer of fewer than 80 bytes is refused.
 pub fn answer_fault(out: &mut [u8], address: u8, fault: Option<Fault>) -> Result<usize, Fault>
     ensures length { IfOk result (λ n. n ≤ 80) }
     ensures answer { (result, out.new) ≡ answered (fault_text address fault) out.old }

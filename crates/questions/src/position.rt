@@ -1,4 +1,4 @@
-// The answer to the question for the position.
+//! The answer to the question for the position.
 ghost use Rattle.std.specs.Prelude.{◌≡◌, ◌≤◌, IfOk};
 ghost use Rattle.replies.specs.Replies.{answered};
 ghost use Rattle.questions.specs.Questions.{position_text};
@@ -6,7 +6,7 @@ ghost use Rattle.questions.specs.Questions.{position_text};
 use faults::Fault;
 use replies::{Reply, check_room};
 
-// Answers with the counter, the levels of the inputs and the outputs.
+/// Answers with the counter in steps, the levels of the inputs and the outputs. A buffer of fewer than 80 bytes is refused.
 pub fn answer_position(
     out: &mut [u8],
     address: u8,

@@ -1,4 +1,4 @@
-// A sequence run once on a module, and what is told of it phase by phase.
+//! A sequence run once on a module, and what is told of it phase by phase.
 #![tactic(auto)]
 
 mod notes;

@@ -1,4 +1,4 @@
-// What is told of a run.
+//! What is told of a run.
 ghost use Rattle.std.specs.Prelude.{◌≡◌, is_some};
 ghost use Rattle.runs.specs.Runs.{fault_in};
 
@@ -7,33 +7,38 @@ use faults::Fault;
 use phases::Position;
 use std::fmt;
 
-// How a run ended.
+/// How a run ended.
 #[derive(Clone, Copy)]
 pub enum Ending {
-    // By the stop, NS 54.
+    /// By the stop, NS 54: at the end of a phase, or where a sub-sequence returned to it.
     Stop,
-    // There is no written phase where the run was to go on.
+    /// There is no written phase where the run was to go on, and no sub-sequence was open to return from.
     NoPhase(Position),
-    // By a fault: of the run, or of the line that was to start it.
+    /// By a fault: of the run, or of the line that was to start it.
     Fault(Fault),
-    // It goes on after the most ticks that are waited for.
+    /// It goes on after `MOST_TICKS` ticks, and was cut off.
     Endless,
 }
 
-// A sequence that was run once: its phases in the order in which they were entered, and how many more there were, the ticks of the
-// whole run, how it ended, and the counter then.
+/// A sequence that was run once.
 #[derive(Drop)]
 pub struct Report {
+    /// Its number.
     pub sequence: u8,
+    /// Its phases in the order in which they were entered, at most 1,000 rows.
     pub rows: Vec<Row>,
+    /// How many more there were.
     pub left_out: u32,
+    /// The ticks of the whole run.
     pub ticks: u32,
+    /// How it ended.
     pub ending: Ending,
+    /// The counter at its end, which was 0 at the start.
     pub counter: i32,
 }
 
 impl Report {
-    // Whether a fault ended the run.
+    /// Whether a fault ended the run.
     pub fn is_faulty(&self) -> bool
         ensures { result ≡ is_some (fault_in self.now.ending) }
     {

@@ -1,18 +1,23 @@
-// One phase of a run.
+//! One phase of a run.
 use phases::Position;
 use std::fmt;
 
-// The tick that entered the phase, how many ticks it lasted from there, the steps made in it, the counter at its end,
-// and the outputs in it.
-// A phase that comes again and again, with no other between, is told once, with the number of times.
+/// A phase of a run. One that comes again and again, with no other between, is one row.
 #[derive(Clone, Copy)]
 pub struct Row {
+    /// Which phase of which sequence.
     pub at: Position,
+    /// How many times it came.
     pub times: u32,
+    /// The tick that entered it first, 1 being the first of the run.
     pub entered: u32,
+    /// How many ticks it lasted, the entering tick included, all times together.
     pub ticks: u32,
+    /// The steps made in it, forward less back, all times together.
     pub steps: i32,
+    /// The counter at its end.
     pub counter: i32,
+    /// The outputs in it when it came first.
     pub outputs: u8,
 }
 

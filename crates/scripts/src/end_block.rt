@@ -1,20 +1,20 @@
-// The end block of a transcript: what a module is.
+//! The end block of a transcript: what a module is.
 use crate::fault_text::FaultText;
-use crate::scene::ROOM;
-use crate::snapshot::{Moment, Shown, Snapshot};
+use crate::snapshot::{ModuleState, Shown, Snapshot};
 use crate::transcript::Transcript;
 use phases::{Phase, Position};
+use replies::REPLY_ROOM;
 use std::alloc::AllocError;
 use store::Block;
 use texts::answer_rs;
 
 impl Transcript {
     // The end block of a module.
-    pub(crate) fn state(&mut self, moment: &Moment) -> Result<(), AllocError> {
-        self.end(&moment.now)?;
-        self.parameters(&moment.now)?;
-        self.sequences(moment)?;
-        self.shown(moment.now.shown)
+    pub(crate) fn state(&mut self, state: &ModuleState) -> Result<(), AllocError> {
+        self.end(&state.snapshot)?;
+        self.parameters(&state.snapshot)?;
+        self.sequences(state)?;
+        self.shown(state.snapshot.shown)
     }
 
     fn end(&mut self, now: &Snapshot) -> Result<(), AllocError> {
@@ -58,26 +58,25 @@ impl Transcript {
     }
 
     // The sequences in order of creation.
-    fn sequences(&mut self, moment: &Moment) -> Result<(), AllocError> {
-        for block in moment.now.control.directory.blocks() {
+    fn sequences(&mut self, state: &ModuleState) -> Result<(), AllocError> {
+        for block in state.snapshot.control.directory.blocks() {
             let Block { number, reserve } = *block;
             let line = format!(in self.heap; "sequence {number} reserve {reserve}\n")?;
             self.add(line.as_bytes())?;
-            self.phases(moment, *block)?;
+            self.phases(state, *block)?;
         }
         Ok(())
     }
 
     // The written records of a sequence.
-    fn phases(&mut self, moment: &Moment, block: Block) -> Result<(), AllocError> {
-        let control = &moment.now.control;
-        // The number of a phase is what is read, and no index.
+    fn phases(&mut self, state: &ModuleState, block: Block) -> Result<(), AllocError> {
+        let control = &state.snapshot.control;
         for phase in 1..=block.reserve {
             let at = Position {
                 sequence: block.number,
                 phase,
             };
-            if let Ok(Some(record)) = control.directory.read(moment.memory.as_slice(), at) {
+            if let Some(record) = control.directory.phase_at(state.memory.as_slice(), at) {
                 self.phase(control.address, at, &record)?;
             }
         }
@@ -86,7 +85,7 @@ impl Transcript {
 
     // The text that a record is read back by, without its end.
     fn phase(&mut self, address: u8, at: Position, record: &Phase) -> Result<(), AllocError> {
-        let mut reply = [0u8; ROOM];
+        let mut reply = [0u8; REPLY_ROOM];
         let Ok(length) = answer_rs(record, &mut reply, address, at) else {
             return Ok(());
         };

@@ -1,20 +1,31 @@
-// What a script should have had in place of a line that is not understood.
+//! What a script should have had in place of a line that is not understood.
 use std::fmt;
 
 // The most calls that a module of a script may take.
 pub(crate) const MOST_CALLS: usize = 20_000_000;
 
+/// What a script should have had in place of a line that is not understood.
 #[derive(Clone, Copy)]
 pub enum Expected {
+    /// One of the first words that there are.
     Order,
+    /// An output and an address after `module`.
     Module,
+    /// A `module` line before this one.
     FirstModule,
+    /// A byte after `byte`, and no more than `damaged` after it.
     Byte,
+    /// A number of ticks after `tick`.
     Ticks,
+    /// A byte after `levels`.
     Levels,
+    /// A size and a byte after `room`.
     Room,
+    /// A number of records and a call after `lent`.
     Lent,
+    /// Nothing after a word that stands alone.
     Alone,
+    /// A module of no more calls than it may take.
     FewerCalls,
 }
 

@@ -1,4 +1,4 @@
-// A fault record as a transcript tells it.
+//! A fault record as a transcript tells it.
 use faults::Fault;
 use std::fmt;
 
@@ -12,8 +12,7 @@ impl fmt::Display for FaultText {
         };
         let number = fault.cause.number();
         let place = fault.place;
-        // A transcript writes 0 where a fault has no word: words are counted from 1.
-        let word = fault.word.unwrap_or(0);
+        let word = fault.word_number();
         write!(f, "{number} {place} {word}")
     }
 }

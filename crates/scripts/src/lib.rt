@@ -1,25 +1,25 @@
-// Scripts of calls read, played on modules, and their transcripts written.
+//! Scripts of calls read, played on modules, and their transcripts written.
 #![tactic(auto)]
 
 mod end_block;
+mod error;
 mod expected;
 mod fault_text;
+mod line_error;
 mod numbers;
+mod playback;
 mod playing;
 mod reading;
-mod scene;
 mod script;
+mod section;
 mod snapshot;
 mod step;
-mod stop;
-mod telling;
 mod transcript;
-mod trouble;
 
+pub use error::ScriptError;
 pub use expected::Expected;
 pub use numbers::{read_decimal, read_hexadecimal};
 pub use reading::read_line;
 pub use script::transcribe;
-pub use step::{Output, Step};
+pub use step::Step;
 pub use transcript::Transcript;
-pub use trouble::Trouble;

@@ -1,8 +1,10 @@
-// Numbers as a script writes them.
+//! Numbers as a script writes them.
 ghost use Rattle.std.specs.Prelude.{◌≡◌};
-ghost use Rattle.scripts.specs.Numbers.{decimal_of, hex_figure_of, hexadecimal_of};
+ghost use Rattle.scripts.specs.Numbers.{decimal_of, hexadecimal_of};
 
-// The number that decimal figures write; any above the greatest that fits is that one.
+use words::hexadecimal_value;
+
+/// The number that one or more decimal digits write; any above 2^64 - 1 is that one.
 pub fn read_decimal(text: &[u8]) -> Option<u64>
     ensures { result ≡ decimal_of text.now }
 {
@@ -11,33 +13,19 @@ pub fn read_decimal(text: &[u8]) -> Option<u64>
     }
     let mut value: u64 = 0;
     for c in text {
-        let n = char::from(*c).to_digit(10)?;
-        value = value.saturating_mul(10).saturating_add(u64::from(n));
+        let digit = char::from(*c).to_digit(10)?;
+        value = value.saturating_mul(10).saturating_add(u64::from(digit));
     }
     Some(value)
 }
 
-// What a hexadecimal figure counts, capital or small. `to_digit` answers a u32: with `try_from` behind it the
-// proof did not close.
-fn hex_figure(c: u8) -> Option<u8>
-    ensures { result ≡ hex_figure_of c }
-{
-    match c {
-        b'0'..=b'9' => Some(c - b'0'),
-        b'A'..=b'F' => Some(c - b'A' + 10),
-        b'a'..=b'f' => Some(c - b'a' + 10),
-        _ => None,
-    }
-}
-
-// The byte that two hexadecimal figures write.
+/// The byte that two hexadecimal digits write, with capital or small letters.
 pub fn read_hexadecimal(text: &[u8]) -> Option<u8>
     ensures { result ≡ hexadecimal_of text.now }
 {
     let [high, low] = text else {
         return None;
     };
-    let high = hex_figure(*high)?;
-    let low = hex_figure(*low)?;
-    Some(16 * high + low)
+    let value = hexadecimal_value(&[high.to_ascii_uppercase(), low.to_ascii_uppercase()])?;
+    u8::try_from(value).ok()
 }

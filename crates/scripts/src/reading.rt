@@ -1,12 +1,15 @@
-// A line of a script, read.
+//! A line of a script, read.
 ghost use Rattle.std.specs.Prelude.{◌≡◌, true, ◌||◌, Ok, None};
 ghost use Rattle.scripts.specs.PassedOver.{blank, comment};
 
 use crate::expected::{Expected, MOST_CALLS};
 use crate::numbers::{read_decimal, read_hexadecimal};
-use crate::scene::{RECORDS, ROOM, with_records};
-use crate::step::{Output, Step};
+use crate::section::with_records;
+use crate::step::Step;
 use history::{Action, Call, Character};
+use programs::Output;
+use replies::REPLY_ROOM;
+use store::RECORDS;
 use words::cut;
 
 // Nothing but blanks.
@@ -24,8 +27,8 @@ fn is_comment(line: &[u8]) -> bool
 
 // A character with this room, from HH or HH damaged.
 fn read_character(text: &[u8], room: usize) -> Option<Action> {
-    let (figures, more) = cut(text);
-    let byte = read_hexadecimal(figures)?;
+    let (digits, more) = cut(text);
+    let byte = read_hexadecimal(digits)?;
     let damaged = match more {
         None => false,
         Some(b"damaged") => true,
@@ -49,12 +52,7 @@ fn read_size(text: &[u8]) -> Option<usize> {
 // The output and the address of a module; an address above 255 counts as that, and is refused as any above 63.
 fn read_module(text: &[u8]) -> Option<Step<'_>> {
     let (name, address) = cut(text);
-    let output = match name {
-        b"full" => Output::Full,
-        b"half" => Output::Half,
-        b"pulse" => Output::Pulse,
-        _ => return None,
-    };
+    let output = Output::named(name)?;
     let address = u8::try_from(read_decimal(address?)?).unwrap_or(u8::MAX);
     Some(Step::Module { output, address })
 }
@@ -84,18 +82,18 @@ fn read_lent(text: &[u8]) -> Option<Call> {
         (b"tick", None) => Action::Tick,
         (b"power-up", None) => Action::PowerUp,
         (b"levels", Some(text)) => read_levels(text)?,
-        (b"byte", Some(text)) => read_character(text, ROOM)?,
+        (b"byte", Some(text)) => read_character(text, REPLY_ROOM)?,
         _ => return None,
     };
     Some(Call { lent, action })
 }
 
-// A line that makes one call, or what its first word wants behind it.
+// A line that makes one call, or what its first word wants after it.
 fn read_call(name: &[u8], text: Option<&[u8]>) -> Result<Call, Expected> {
     let (action, wanted) = match name {
         b"lent" => return text.and_then(read_lent).ok_or(Expected::Lent),
         b"byte" => (
-            text.and_then(|text| read_character(text, ROOM)),
+            text.and_then(|text| read_character(text, REPLY_ROOM)),
             Expected::Byte,
         ),
         b"levels" => (text.and_then(read_levels), Expected::Levels),
@@ -128,7 +126,8 @@ fn read_words(line: &[u8]) -> Result<Step<'_>, Expected> {
     }
 }
 
-// What a line asks for, and nothing if it is passed over; or what was expected in its place.
+/// What a line of a script asks for, without its 0Ah; none for a comment and a line of blanks, which are passed over. What was expected
+/// in place of a line that is not understood.
 pub fn read_line(line: &[u8]) -> Result<Option<Step<'_>>, Expected>
     ensures { comment line.now || blank line.now ≡ true → result ≡ Ok None }
 {

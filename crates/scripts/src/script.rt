@@ -1,27 +1,28 @@
-// A script played from its first line to its last.
+//! A script played from its first line to its last.
+use crate::error::ScriptError;
 use crate::expected::Expected;
+use crate::line_error::LineError;
+use crate::playback::tell_section;
 use crate::reading::read_line;
-use crate::scene::{Scene, Told};
-use crate::step::{Output, Step};
-use crate::stop::Stop;
-use crate::telling::tell_scene;
+use crate::section::{LineKind, Section};
+use crate::step::Step;
 use crate::transcript::Transcript;
-use crate::trouble::Trouble;
 use lines::check_address;
+use programs::Output;
 use std::alloc::{AllocError, Global};
 
 // The module that is being gathered, if one is.
 #[derive(Drop)]
 struct Script<'a> {
     heap: Global,
-    scene: Option<Scene<'a>>,
+    section: Option<Section<'a>>,
 }
 
 impl<'a> Script<'a> {
     // Tells the module so far, with its end block if the script ends it.
     fn tell(&self, ended: bool, transcript: &mut Transcript) -> Result<(), AllocError> {
-        match &self.scene {
-            Some(scene) => tell_scene(scene, ended, transcript),
+        match &self.section {
+            Some(section) => tell_section(section, ended, transcript),
             None => Ok(()),
         }
     }
@@ -35,22 +36,22 @@ impl<'a> Script<'a> {
         transcript: &mut Transcript,
     ) -> Result<(), AllocError> {
         self.tell(true, transcript)?;
-        self.scene = None;
+        self.section = None;
         transcript.echo(line)?;
         if let Err(fault) = check_address(address) {
             return transcript.refused(fault);
         }
-        self.scene = Some(Scene::new(self.heap, output, address));
+        self.section = Some(Section::new(self.heap, output, address));
         Ok(())
     }
 
     // The module that a line goes on with.
-    fn gathered(&mut self) -> Result<&mut Scene<'a>, Expected> {
-        self.scene.as_mut().ok_or(Expected::FirstModule)
+    fn gathered(&mut self) -> Result<&mut Section<'a>, Expected> {
+        self.section.as_mut().ok_or(Expected::FirstModule)
     }
 
     // Takes a line.
-    fn take(&mut self, line: &'a [u8], transcript: &mut Transcript) -> Result<(), Stop> {
+    fn take(&mut self, line: &'a [u8], transcript: &mut Transcript) -> Result<(), LineError> {
         let Some(step) = read_line(line)? else {
             return Ok(());
         };
@@ -62,23 +63,30 @@ impl<'a> Script<'a> {
             Step::Type(text) => self.gathered()?.type_text(line, text),
             Step::Once(call) => self.gathered()?.once(line, call),
             Step::Ticks(count) => self.gathered()?.tick(line, count),
-            Step::Fault => Ok(self.gathered()?.note(line, Told::Fault)?),
-            Step::State => Ok(self.gathered()?.note(line, Told::State)?),
+            Step::Fault => Ok(self.gathered()?.note(line, LineKind::Fault)?),
+            Step::State => Ok(self.gathered()?.note(line, LineKind::State)?),
         }
     }
 }
 
-// Plays a script and adds its transcript. A line that is not understood ends it; what came before is in the transcript.
-pub fn transcribe(heap: Global, text: &[u8], transcript: &mut Transcript) -> Result<(), Trouble> {
-    let mut script = Script { heap, scene: None };
+/// Plays a script and adds its transcript. A line that is not understood ends it; what came before is in the transcript.
+pub fn transcribe(
+    heap: Global,
+    text: &[u8],
+    transcript: &mut Transcript,
+) -> Result<(), ScriptError> {
+    let mut script = Script {
+        heap,
+        section: None,
+    };
     for (i, line) in text.split(|c| *c == b'\n').enumerate() {
         match script.take(line, transcript) {
             Ok(()) => {}
-            Err(Stop::NoMemory) => return Err(Trouble::NoMemory),
-            Err(Stop::Expected(expected)) => {
+            Err(LineError::NoMemory) => return Err(ScriptError::NoMemory),
+            Err(LineError::Expected(expected)) => {
                 script.tell(false, transcript)?;
                 let number = i + 1;
-                return Err(Trouble::Line { number, expected });
+                return Err(ScriptError::Line { number, expected });
             }
         }
     }

@@ -1,4 +1,4 @@
-// What is told of a module at one time.
+//! What is told of a module at one time.
 use control::Control;
 use faults::Fault;
 use module::Module;
@@ -52,9 +52,9 @@ impl<O: ShownOutput> From<&Module<O>> for Snapshot {
     }
 }
 
-// What a module is after some of its calls, and its memory then.
+// What a module is after some of its calls, with its memory then.
 #[derive(Drop)]
-pub(crate) struct Moment {
-    pub now: Snapshot,
+pub(crate) struct ModuleState {
+    pub snapshot: Snapshot,
     pub memory: Vec<Phase>,
 }

@@ -1,4 +1,4 @@
-// The lines of a transcript.
+//! The lines of a transcript.
 ghost use Rattle.std.specs.Prelude.{◌≡◌, [], ◌++◌, OnOk};
 ghost use Rattle.scripts.specs.Replies.{escaped_of, escaped_all, reply_of, echo_of};
 
@@ -7,6 +7,7 @@ use faults::Fault;
 use replies::hexadecimal;
 use std::alloc::{AllocError, Global};
 
+/// The bytes of a transcript, which grow as a script is played.
 #[derive(Drop)]
 pub struct Transcript {
     pub(crate) heap: Global,
@@ -14,6 +15,7 @@ pub struct Transcript {
 }
 
 impl Transcript {
+    /// An empty transcript.
     pub fn new(heap: Global) -> Transcript
         ensures { result.bytes.items ≡ [] }
     {
@@ -23,6 +25,7 @@ impl Transcript {
         }
     }
 
+    /// All bytes so far.
     pub fn bytes(&self) -> &[u8]
         ensures { result.now ≡ self.now.bytes.items }
     {
@@ -84,7 +87,7 @@ impl Transcript {
     // A tick with a step or a change of busy.
     pub(crate) fn tick(&mut self, number: usize, step: i8, busy: bool) -> Result<(), AllocError> {
         let busy = u8::from(busy);
-        // No step has no sign, where `{step:+}` would write +0.
+        // A tick without a step is told as 0, without a sign.
         let sign = if step > 0 { "+" } else { "" };
         let line = format!(in self.heap; "t {number} step {sign}{step} busy {busy}\n")?;
         self.add(line.as_bytes())

@@ -11,7 +11,7 @@ use Rattle.phases.specs.Phases.{blank}
 use Rattle.outputs.specs.Meaning.{Meaning}
 use Rattle.history.specs.Histories.{started}
 use Rattle.sheet.specs.declared.sheet.Sheet.{Sheet}
-use Rattle.sheet.specs.Desks.{told}
+use Rattle.sheet.specs.Readings.{told}
 use Rattle.sheet.specs.Telling.{Tells, file_sent}
 use Rattle.sheet.specs.Files.{Gathered, nothing, onward, gathered}
 use Rattle.sheet.specs.Exchanges.{Exchange, exchange_of, fresh, exchange, Sent, byte_sent, bytes_sent}

@@ -1,13 +1,12 @@
-pub mod Addresses
 pub mod Characters
-pub mod Desks
 pub mod Exchanges
-pub mod Fates
 pub mod Files
+pub mod Outcomes
 pub mod ReadBack
+pub mod Readings
 pub mod Reasons
-pub mod Shelves
 pub mod Sheets
+pub mod Shelves
 pub mod Steps
 pub mod Telling
 pub mod Verdicts

@@ -8,14 +8,14 @@ use Rattle.words.specs.Words.{words}
 use Rattle.phases.specs.declared.phase.Phase.{Phase}
 use Rattle.phases.specs.declared.phase.Position.{Position}
 use Rattle.fields.specs.Fields.{sp_form}
-use Rattle.values.specs.Values.{sp_values}
-use Rattle.replies.specs.Replies.{figures_of}
+use Rattle.fields.specs.Values.{sp_values}
+use Rattle.replies.specs.Replies.{digits_of}
 use Rattle.law.specs.Events.{Answer}
-use Rattle.law.specs.Events.Answer.{refused, reply, ticked, done}
+use Rattle.law.specs.Events.Answer.{reply}
 use Rattle.law.specs.History.{State}
 use Rattle.module.specs.Machine.{module_device}
-use Rattle.host.specs.Hosts.{set_anew, after_own, own_reply}
-use Rattle.sheet.specs.declared.shelf.Meant.{Meant}
+use Rattle.history.specs.Hosts.{set_anew, after_own, own_reply}
+use Rattle.sheet.specs.declared.shelf.IntendedPhase.{IntendedPhase}
 use Rattle.sheet.specs.declared.verdict.ShelfPhase.{ShelfPhase}
 use Rattle.sheet.specs.Shelves.{position_of}
 use Rattle.sheet.specs.Verdicts.{Judged}
@@ -33,14 +33,12 @@ abbrev pub phase_told : List ℕ → Option Phase
 phase_told t = record_of (and_then (sp_form (words (unframed t), 1)) sp_values)
 
 abbrev pub reply_text : Answer → List ℕ
-reply_text (refused code) = []
 reply_text (reply t) = t
-reply_text (ticked step busy) = []
-reply_text done = []
+reply_text _ = []
 
--- RS, the sequence and the phase, in two figures each
+-- RS, the sequence and the phase, in two digits each
 abbrev pub rs_line : Position → List ℕ
-rs_line at = codes "RS " ++ figures_of 2 at.sequence ++ codes " " ++ figures_of 2 at.phase
+rs_line at = codes "RS " ++ digits_of 2 at.sequence ++ codes " " ++ digits_of 2 at.phase
 
 -- what a module reads back, and the module then
 abbrev pub read_back : (cycle : ℕ) → State (module_device cycle) → Position → Option Phase
@@ -51,18 +49,18 @@ after_reading cycle s None = s
 after_reading cycle s (Some at) = after_own cycle (rs_line at) s
 
 -- each phase that is meant is held against what the module reads back in its place, one after the other; and the module then
-abbrev pub Compared : (cycle : ℕ) → State (module_device cycle) → List Meant → List ShelfPhase → Type 0
+abbrev pub Compared : (cycle : ℕ) → State (module_device cycle) → List IntendedPhase → List ShelfPhase → Type 0
 Compared cycle s [] ps = ps ≡ []
 Compared cycle s (m ∷ ms) [] = ⊥
 Compared cycle s (m ∷ ms) (p ∷ ps) =
-    (p.meant ≡ m)
+    (p.intended ≡ m)
     × Judged m.record (option_and_then (read_back cycle s) (position_of m)) p.verdict
     × Compared cycle (after_reading cycle s (position_of m)) ms ps
 
-abbrev pub after_shelf : (cycle : ℕ) → State (module_device cycle) → List Meant → State (module_device cycle)
+abbrev pub after_shelf : (cycle : ℕ) → State (module_device cycle) → List IntendedPhase → State (module_device cycle)
 after_shelf cycle s [] = s
 after_shelf cycle s (m ∷ ms) = after_shelf cycle (after_reading cycle s (position_of m)) ms
 
--- the module behind the file: its unfinished line is dropped, as where its address is set anew, and what goes on is ended by GR
+-- the module after the file: its unfinished line is dropped, as where its address is set anew, and what goes on is ended by GR
 abbrev pub settled : (cycle : ℕ) → ℕ → State (module_device cycle) → State (module_device cycle)
 settled cycle a s = after_own cycle (codes "GR") (if is_ok (address_answer a) then set_anew cycle a s else s)

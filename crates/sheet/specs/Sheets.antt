@@ -4,13 +4,13 @@ use Rattle.lines.specs.Lines.{kept}
 use Rattle.sheet.specs.declared.entry.Entry.{Entry}
 use Rattle.sheet.specs.declared.verdict.ShelfPhase.{ShelfPhase}
 use Rattle.sheet.specs.declared.sheet.Sheet.{Sheet}
-use Rattle.sheet.specs.Fates.{is_refused}
+use Rattle.sheet.specs.Outcomes.{is_refused}
 use Rattle.runs.specs.declared.report.Report.{Report}
 use Rattle.runs.specs.Runs.{fault_in}
 use Rattle.sheet.specs.Verdicts.{is_stored}
 
 abbrev pub refused_in : List Entry → ℕ
-refused_in es = count_by (λ e. is_refused e.fate) es
+refused_in es = count_by (λ e. is_refused e.outcome) es
 
 abbrev pub stored_in : List ShelfPhase → ℕ
 stored_in ps = count_by (λ p. is_stored p.verdict) ps

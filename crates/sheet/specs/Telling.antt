@@ -14,7 +14,7 @@ use Rattle.sheet.specs.Steps.{whole_shelf}
 abbrev pub numbers_in : List Block → List ℕ
 numbers_in bs = map (λ b. b.number) bs
 
--- Each line has the fate and the reply that the module had for it; the unfinished line is the module's; the module is told as busy where it
+-- Each line became what the module made of it, with its reply; the unfinished line is the module's; the module is told as busy where it
 -- is; the phases that the lines mean are held against what the module reads back; then each of its sequences is run once.
 pub record Tells (cycle : ℕ) (a : ℕ) (t : Sent cycle) (s : Sheet) : Type 0 where
   pub exchanges : exchanges_of (vec_items s.entries) ≡ t.exchanges

@@ -6,12 +6,10 @@ use Rattle.sheet.specs.declared.verdict.Verdict.TheVariants.{Stored, Otherwise, 
 
 abbrev pub is_stored : Verdict → Bool
 is_stored (Stored p) = true
-is_stored (Otherwise p) = false
-is_stored Missing = false
+is_stored _ = false
 
 -- the verdict where a line means one record and the module reads back another
 abbrev pub Judged : Option Phase → Option Phase → Verdict → Type 0
-Judged None None v = v ≡ Missing
-Judged (Some m) None v = v ≡ Missing
+Judged _ None v = v ≡ Missing
 Judged None (Some s) v = v ≡ Otherwise s
 Judged (Some m) (Some s) v = (m ≡ s → v ≡ Stored s) × ((m ≢ s) → v ≡ Otherwise s)

@@ -1,95 +1,63 @@
-// A line of the file, what became of it, and the reply.
+//! A line of the file, what became of it, and the reply.
 ghost use Rattle.std.specs.Prelude.{◌≡◌};
-ghost use Rattle.sheet.specs.Fates.{fate_of, is_refused};
+ghost use Rattle.sheet.specs.Outcomes.{outcome_of, is_refused};
 
 use crate::text::Text;
-use faults::{Cause, Fault, Place};
+use faults::{Cause, Fault};
 use history::Reply;
 use lines::Line;
-use orders::Order;
+use orders::Judgement;
 use std::fmt;
 
-// What became of a line, to be printed: each end has words of its own. An Option of a Result would need its nothing for what is accepted.
+/// What became of a line.
 #[derive(Clone, Copy)]
-pub enum Fate {
+pub enum LineOutcome {
+    /// The module carried it out.
     Accepted,
+    /// It is for the module, or for all, and was refused for this.
     Refused(Fault),
+    /// It is for another module.
     Stranger,
 }
 
-// A line with its number in the file.
+/// A line of the file.
 #[derive(Clone, Copy)]
 pub struct Entry {
+    /// Its number in the file, from 1.
     pub number: usize,
+    /// What the module's receiver held of it, at most 64 characters.
     pub line: Line,
-    pub fate: Fate,
+    /// What became of it.
+    pub outcome: LineOutcome,
+    /// The module's reply; empty for a line to all and for another module's.
     pub reply: Reply,
 }
 
-impl Fate {
-    // The fate of a line that the module judges so.
-    pub(crate) fn of(judged: Option<Result<Order, Fault>>) -> Fate
-        ensures { result ≡ fate_of judged }
+impl LineOutcome {
+    // What becomes of a line that the module judges so.
+    pub(crate) fn of(judgement: Judgement) -> LineOutcome
+        ensures { result ≡ outcome_of judgement }
     {
-        match judged {
-            Some(Ok(_)) => Fate::Accepted,
-            Some(Err(fault)) => Fate::Refused(fault),
-            None => Fate::Stranger,
-        }
-    }
-}
-
-// Why a line is refused, in plain words.
-#[derive(Clone, Copy)]
-struct Reason(Fault);
-
-impl fmt::Display for Reason {
-    fn fmt<W: fmt::Write>(&self, f: &mut fmt::Formatter<W>) -> fmt::Result {
-        let fault = self.0;
-        match (fault.cause, fault.word) {
-            (Cause::WrongForm, Some(1)) => write!(f, "a question cannot be a broadcast"),
-            (Cause::WrongForm, Some(word)) => {
-                write!(f, "word {word} is missing, surplus or of wrong form")
+        match judgement {
+            Judgement::Own(Ok(_)) | Judgement::Broadcast(Ok(_)) => LineOutcome::Accepted,
+            Judgement::Own(Err(fault)) | Judgement::Broadcast(Err(fault)) => {
+                LineOutcome::Refused(fault)
             }
-            (Cause::PastLimit, Some(word)) => {
-                write!(f, "the value of word {word} is past its limit")
-            }
-            (Cause::NoSuchPhase, Some(word)) if fault.place == Place::Store => write!(
-                f,
-                "the phase of word {word} is above the sequence's reserve"
-            ),
-            (Cause::NoSuchPhase, Some(word)) => {
-                write!(f, "word {word} numbers no phase of any sequence")
-            }
-            (Cause::NoSequence, Some(word)) => {
-                write!(f, "there is no sequence of the number in word {word}")
-            }
-            (Cause::SequenceExists, Some(word)) => write!(
-                f,
-                "there is a sequence of the number in word {word} already"
-            ),
-            (Cause::MemoryFull, Some(word)) => write!(
-                f,
-                "the phase memory has no room for the phases of word {word}"
-            ),
-            (Cause::UnknownCommand, _) => write!(f, "the first word names no command"),
-            (Cause::BadLine, _) => write!(f, "the line has more than 64 characters"),
-            (Cause::Busy, _) => write!(f, "the module is busy"),
-            (Cause::StartPastPlateau, _) => write!(
-                f,
-                "the start speed would be above the plateau speed"
-            ),
-            _ => write!(f, "the module cannot do this"),
+            Judgement::Stranger => LineOutcome::Stranger,
         }
     }
 }
 
 // A refusal with its cause, its place and its word.
 fn write_refusal<W: fmt::Write>(f: &mut fmt::Formatter<W>, fault: Fault) -> fmt::Result {
-    let reason = Reason(fault);
     let number = fault.cause.number();
     let place = fault.place;
-    write!(f, "refused: {reason} ({number}) at the {place}")?;
+    match fault.cause {
+        // No character of a file is damaged.
+        Cause::BadLine => write!(f, "refused: the line has more than 64 characters")?,
+        _ => write!(f, "refused: {fault}")?,
+    }
+    write!(f, " ({number}) at the {place}")?;
     match fault.word {
         Some(word) => write!(f, ", word {word}"),
         None => Ok(()),
@@ -116,9 +84,9 @@ impl fmt::Display for Answer<'_> {
 
 impl Entry {
     pub(crate) fn is_refused(&self) -> bool
-        ensures { result ≡ is_refused self.now.fate }
+        ensures { result ≡ is_refused self.now.outcome }
     {
-        matches!(self.fate, Fate::Refused(_))
+        matches!(self.outcome, LineOutcome::Refused(_))
     }
 
     // How many characters of the line are shown.
@@ -126,16 +94,16 @@ impl Entry {
         self.line.characters().len()
     }
 
-    // What is said of the line behind its reply; the text of an answer speaks for itself.
+    // What is said of the line after its reply; the text of an answer speaks for itself.
     fn write_judgement<W: fmt::Write>(&self, f: &mut fmt::Formatter<W>) -> fmt::Result {
-        match self.fate {
-            Fate::Stranger => write!(f, "  another module's line, touches nothing here"),
-            Fate::Refused(fault) => {
+        match self.outcome {
+            LineOutcome::Stranger => write!(f, "  another module's line, touches nothing here"),
+            LineOutcome::Refused(fault) => {
                 write!(f, "  ")?;
                 write_refusal(f, fault)
             }
-            Fate::Accepted if self.reply.length > 2 => Ok(()),
-            Fate::Accepted => write!(f, "  accepted"),
+            LineOutcome::Accepted if self.reply.length > 2 => Ok(()),
+            LineOutcome::Accepted => write!(f, "  accepted"),
         }
     }
 

@@ -1,7 +1,7 @@
-// The reading of a file: its characters go to a module, and its lines to the shelf; then the phases are read back, and the sequences run.
+//! The reading of a file: its characters go to a module, and its lines to the shelf; then the phases are read back, and the sequences run.
 ghost use Rattle.std.specs.Prelude.{◌≡◌, true, [], ◌∷◌, ◌++◌, nat_le, IfOk, IfErr, OnOk};
 ghost use Rattle.std.specs.Option.{option_and_then};
-ghost use Rattle.host.specs.Hosts.{state_of, after_own};
+ghost use Rattle.history.specs.Hosts.{state_of, after_own};
 ghost use Rattle.runs.specs.Runs.{RunInTurn};
 ghost use Rattle.sheet.specs.Characters.{AllText};
 ghost use Rattle.sheet.specs.Reasons.{Explained};
@@ -10,22 +10,23 @@ ghost use Rattle.sheet.specs.Exchanges.{exchange_of, exchanges_of, fresh, byte_s
 ghost use Rattle.sheet.specs.ReadBack.{rs_line, read_back, after_reading, Compared, after_shelf};
 ghost use Rattle.sheet.specs.Shelves.{position_of, stepped};
 ghost use Rattle.sheet.specs.Steps.{step_of};
-ghost use Rattle.sheet.specs.Desks.{progress, told, UpToDate};
+ghost use Rattle.sheet.specs.Readings.{progress, told, UpToDate};
 ghost use Rattle.sheet.specs.Telling.{numbers_in, Tells, file_sent};
 
-use crate::entry::{Entry, Fate};
+use crate::entry::{Entry, LineOutcome};
 use crate::sheet::Sheet;
-use crate::shelf::{Meant, Step, take_step};
+use crate::shelf::{IntendedPhase, Step, take_step};
 use crate::text::{stray_byte, told_phase};
 use crate::unreadable::Unreadable;
 use crate::verdict::{ShelfPhase, Verdict};
-use host::{Host, two_figures};
+use history::Host;
 use lines::Line;
 use outputs::StepOutput;
 use phases::{Phase, Position};
+use replies::two_digits;
 use runs::{Report, run};
 use std::alloc::{AllocError, Global};
-use store::Block;
+use store::{Block, RECORDS};
 
 const LINE_END: u8 = 0x0D;
 
@@ -34,7 +35,7 @@ const LINE_END: u8 = 0x0D;
 struct Notes {
     address: u8,
     entries: Vec<Entry>,
-    shelf: Vec<Meant>,
+    shelf: Vec<IntendedPhase>,
 }
 
 impl Notes {
@@ -71,19 +72,19 @@ impl Notes {
     }
 }
 
-// A module to which the file is sent, and the notes.
+// The reading of a file: the module to which it is sent, and what is noted of its lines.
 #[derive(Drop)]
-struct Desk<O: StepOutput + Drop> {
+struct Reading<O: StepOutput + Drop> {
     host: Host<O>,
     notes: Notes,
 }
 
-// The line that asks for a phase, behind the address.
+// The line that asks for a phase, after the address.
 fn rs_line(at: Position) -> [u8; 8]
     ensures { result ≡ rs_line at }
 {
-    let [s, q] = two_figures(at.sequence);
-    let [p, h] = two_figures(at.phase);
+    let [s, q] = two_digits(at.sequence);
+    let [p, h] = two_digits(at.phase);
     [b'R', b'S', b' ', s, q, b' ', p, h]
 }
 
@@ -97,11 +98,11 @@ fn read_back<O: StepOutput + Drop>(host: &mut Host<O>, at: Position) -> Option<P
 }
 
 // What a module reads back in the place of a phase that is meant.
-fn found<O: StepOutput + Drop>(host: &mut Host<O>, meant: &Meant) -> Option<Phase>
-    ensures found { result ≡ option_and_then (read_back O.CYCLE (state_of O.CYCLE host.old)) (position_of meant.now) }
-    ensures state { state_of O.CYCLE host.new ≡ after_reading O.CYCLE (state_of O.CYCLE host.old) (position_of meant.now) }
+fn found<O: StepOutput + Drop>(host: &mut Host<O>, intended: &IntendedPhase) -> Option<Phase>
+    ensures found { result ≡ option_and_then (read_back O.CYCLE (state_of O.CYCLE host.old)) (position_of intended.now) }
+    ensures state { state_of O.CYCLE host.new ≡ after_reading O.CYCLE (state_of O.CYCLE host.old) (position_of intended.now) }
 {
-    let at = meant.position()?;
+    let at = intended.position()?;
     read_back(host, at)
 }
 
@@ -109,17 +110,17 @@ fn found<O: StepOutput + Drop>(host: &mut Host<O>, meant: &Meant) -> Option<Phas
 fn compare<O: StepOutput + Drop>(
     heap: Global,
     host: &mut Host<O>,
-    shelf: &[Meant],
+    shelf: &[IntendedPhase],
 ) -> Result<Vec<ShelfPhase>, AllocError>
     ensures compared { IfOk result (λ v. Compared O.CYCLE (state_of O.CYCLE host.old) shelf.now v.items) }
     ensures state { OnOk result (state_of O.CYCLE host.new ≡ after_shelf O.CYCLE (state_of O.CYCLE host.old) shelf.now) }
 {
     let mut compared = Vec::new(heap);
-    for meant in shelf {
-        let found = found(host, meant);
+    for intended in shelf {
+        let found = found(host, intended);
         compared.push(ShelfPhase {
-            meant: *meant,
-            verdict: Verdict::of(meant.record, found),
+            intended: *intended,
+            verdict: Verdict::of(intended.record, found),
         })?;
     }
     Ok(compared)
@@ -140,7 +141,7 @@ fn run_all<O: StepOutput + Drop>(
     Ok(reports)
 }
 
-impl<O: StepOutput + Drop> Desk<O> {
+impl<O: StepOutput + Drop> Reading<O> {
     // Takes a character of the file. A line is judged before the module carries it out.
     fn take(&mut self, byte: u8) -> Result<(), AllocError>
         ensures progress { OnOk result (progress O.CYCLE self.new ≡ byte_sent O.CYCLE (progress O.CYCLE self.old) byte) }
@@ -153,12 +154,12 @@ impl<O: StepOutput + Drop> Desk<O> {
         }
         let number = self.notes.entries.len() + 1;
         let line = self.host.module().held();
-        let fate = Fate::of(self.host.module().control().judge(&line));
+        let outcome = LineOutcome::of(self.host.judge(&line));
         let reply = self.host.character(byte);
         self.notes.add(Entry {
             number,
             line,
-            fate,
+            outcome,
             reply,
         })
     }
@@ -167,7 +168,7 @@ impl<O: StepOutput + Drop> Desk<O> {
     fn finish(self, heap: Global) -> Result<Sheet, AllocError>
         ensures { UpToDate self.notes → IfOk result (λ s. Tells O.CYCLE self.notes.address (progress O.CYCLE self) s) }
     {
-        let Desk {
+        let Reading {
             mut host,
             mut notes,
         } = self;
@@ -203,18 +204,19 @@ fn read_text<O: StepOutput + Drop>(
 ) -> Result<Sheet, AllocError>
     ensures { IfOk result (λ s. Tells O.CYCLE address (bytes_sent O.CYCLE (fresh O.CYCLE (state_of O.CYCLE host)) bytes.now) s) }
 {
-    let mut desk = Desk {
+    let mut reading = Reading {
         host,
         notes: Notes::new(heap, address),
     };
     for byte in bytes {
-        desk.take(*byte)?;
+        reading.take(*byte)?;
     }
-    desk.finish(heap)
+    reading.finish(heap)
 }
 
-// The proof sheet of a file's bytes at a new module of the address over the output. It tells every line of the file, and the
-// unfinished one; a byte that is no text is told with its place.
+/// The proof sheet of a file's bytes at a new module of the address over the output. The bytes are sent one by one, and no time passes
+/// between them; then the phases that the file means to store are read back, and each sequence is run once. There is no sheet for an
+/// address above 63, where a byte is no text, for a file without a line, and where the heap has no room.
 pub fn proofread<O: StepOutput + Drop>(
     heap: Global,
     output: O,
@@ -227,7 +229,7 @@ pub fn proofread<O: StepOutput + Drop>(
     ensures lines { IfOk result (λ s. told s ≡ gathered nothing bytes.now) }
     ensures tells { IfOk result (λ s. Tells O.CYCLE address (file_sent O.CYCLE address (O.meaning output) bytes.now) s) }
 {
-    let memory = [Phase::BLANK; 414];
+    let memory = [Phase::BLANK; RECORDS];
     let Ok(host) = Host::new(output, address, memory) else {
         return Err(Unreadable::WrongAddress);
     };

@@ -1,4 +1,4 @@
-// The proof sheet of a sequence file.
+//! The proof sheet of a sequence file.
 ghost use Rattle.std.specs.Prelude.{◌≡◌, ◌≤◌, vec_len};
 ghost use Rattle.sheet.specs.Sheets.{refused_in, stored_in, faults_in, is_unfinished, is_clean};
 
@@ -9,33 +9,37 @@ use lines::Line;
 use runs::Report;
 use std::fmt;
 
-// The lines of the file with what became of them, the unfinished line at its end, whether the file left the module busy, the shelf
-// against the module, and the run of each sequence.
+/// The proof sheet of a file.
 #[derive(Drop)]
 pub struct Sheet {
+    /// The lines of the file, in order, with what became of them.
     pub entries: Vec<Entry>,
+    /// The unfinished line at its end, empty where there is none.
     pub held: Line,
+    /// Whether the file left the module busy.
     pub busy: bool,
+    /// The phases that the file means to store, against the module.
     pub shelf: Vec<ShelfPhase>,
+    /// The run of each of the module's sequences, in order of creation.
     pub runs: Vec<Report>,
 }
 
 impl Sheet {
-    // How many lines are refused. This and `stored` are one call of the library each, which no generic count would shorten.
+    /// How many lines are refused.
     pub fn refused(&self) -> usize
         ensures { result ≡ refused_in self.now.entries.items }
     {
         self.entries.iter().filter(|line| line.is_refused()).count()
     }
 
-    // How many phases the file means to store.
-    pub fn meant(&self) -> usize
+    /// How many phases the file means to store.
+    pub fn intended(&self) -> usize
         ensures { result ≡ vec_len self.now.shelf }
     {
         self.shelf.len()
     }
 
-    // How many phases are stored as on the shelf.
+    /// How many phases are stored as on the shelf.
     pub fn stored(&self) -> usize
         ensures value { result ≡ stored_in self.now.shelf.items }
         ensures within { result ≤ vec_len self.now.shelf }
@@ -43,27 +47,27 @@ impl Sheet {
         self.shelf.iter().filter(|phase| phase.is_stored()).count()
     }
 
-    // How many runs were ended by a fault.
+    /// How many runs were ended by a fault.
     pub fn faulty_runs(&self) -> usize
         ensures { result ≡ faults_in self.now.runs.items }
     {
         self.runs.iter().filter(|run| run.is_faulty()).count()
     }
 
-    // Whether the file ends in the middle of a line.
+    /// Whether the file ends in the middle of a line.
     pub fn is_unfinished(&self) -> bool
         ensures { result ≡ is_unfinished self.now }
     {
         !self.held.characters().is_empty()
     }
 
-    // Whether no line is refused, none is unfinished, each phase is stored as on the shelf, and no run was ended by a fault.
+    /// Whether no line is refused, none is unfinished, each phase is stored as on the shelf, and no run was ended by a fault.
     pub fn is_clean(&self) -> bool
         ensures { result ≡ is_clean self.now }
     {
         self.refused() == 0
             && !self.is_unfinished()
-            && self.stored() == self.meant()
+            && self.stored() == self.intended()
             && self.faulty_runs() == 0
     }
 
@@ -74,10 +78,10 @@ impl Sheet {
     fn write_counts<W: fmt::Write>(&self, f: &mut fmt::Formatter<W>) -> fmt::Result {
         let refused = self.refused();
         let stored = self.stored();
-        let meant = self.meant();
+        let intended = self.intended();
         let faulty = self.faulty_runs();
         writeln!(f, "lines refused: {refused}")?;
-        writeln!(f, "{stored} of {meant} phases stored as on the shelf")?;
+        writeln!(f, "{stored} of {intended} phases stored as on the shelf")?;
         writeln!(f, "runs ended by a fault: {faulty}")
     }
 

@@ -1,4 +1,4 @@
-// The shelf: the phases that the file means to store, worked out from its lines alone.
+//! The shelf: the phases that the file means to store, worked out from its lines alone.
 ghost use Rattle.std.specs.Prelude.{◌≡◌, ◌<◌, length, IfSome, OnOk};
 ghost use Rattle.std.specs.Option.{option_map};
 ghost use Rattle.lines.specs.Lines.{kept};
@@ -7,25 +7,28 @@ ghost use Rattle.sheet.specs.Shelves.{number_to, position_of, same_place, erases
 
 use faults::Fault;
 use lines::{Addressee, Line};
-use loader::{Order, read_order};
+use orders::{Intention, intended};
 use phases::{Phase, Position};
 use std::alloc::AllocError;
 use words::{Reader, Word};
 
-// A phase that a line means to store. A line that is refused for its form or its values has no record,
-// and a number that no sequence or phase can have is none.
+/// A phase that a line means to store.
 #[derive(Clone, Copy)]
-pub struct Meant {
+pub struct IntendedPhase {
+    /// The line, with its address.
     pub line: Line,
+    /// The number of the sequence, 1 to 99; none where the line has no such number.
     pub sequence: Option<u8>,
+    /// The number of the phase in it, 1 to 50; none where the line has no such number.
     pub phase: Option<u8>,
+    /// The record; none where the line is refused for its form or its values.
     pub record: Option<Phase>,
 }
 
 // What a line does to the shelf.
 #[derive(Clone, Copy)]
 pub(crate) enum Step {
-    Put(Meant),
+    Put(IntendedPhase),
     TakeOff(Option<u8>),
 }
 
@@ -37,7 +40,7 @@ fn number_to(high: u8, number: Result<u64, Fault>) -> Option<u8>
     (1..=high).contains(&number).then_some(number)
 }
 
-// What a line says behind its address; none for a stranger's line.
+// What a line says after its address; none for a stranger's line.
 fn text_of(line: &Line, address: u8) -> Option<&[u8]>
     ensures { option_map (λ t. t.now) result ≡ text_in address (kept line.now) }
 {
@@ -50,7 +53,7 @@ fn text_of(line: &Line, address: u8) -> Option<&[u8]>
 }
 
 // The phase that these words mean to store, where SP is the first of them.
-fn phase_named(line: &Line, text: &[u8]) -> Option<Meant>
+fn phase_named(line: &Line, text: &[u8]) -> Option<IntendedPhase>
     ensures { result ≡ phase_named line.now text.now }
 {
     let mut reader = Reader::new(text, 1);
@@ -60,7 +63,7 @@ fn phase_named(line: &Line, text: &[u8]) -> Option<Meant>
     }
     let sequence = number_to(99, reader.unsigned());
     let phase = number_to(50, reader.unsigned());
-    Some(Meant {
+    Some(IntendedPhase {
         line: *line,
         sequence,
         phase,
@@ -69,7 +72,7 @@ fn phase_named(line: &Line, text: &[u8]) -> Option<Meant>
 }
 
 // The phase that a refused line means to store.
-fn refused_phase(line: &Line, address: u8) -> Option<Meant>
+fn refused_phase(line: &Line, address: u8) -> Option<IntendedPhase>
     ensures { result ≡ refused_phase address line.now }
 {
     phase_named(line, text_of(line, address)?)
@@ -80,21 +83,21 @@ impl Step {
     pub(crate) fn of(line: &Line, address: u8) -> Option<Step>
         ensures { result ≡ step_of address line.now }
     {
-        match read_order(line, address)? {
-            Ok(Order::Write { at, phase }) => Some(Step::Put(Meant {
+        match intended(line, address)? {
+            Ok(Some(Intention::Write { at, phase })) => Some(Step::Put(IntendedPhase {
                 line: *line,
                 sequence: Some(at.sequence),
                 phase: Some(at.phase),
                 record: Some(phase),
             })),
-            Ok(Order::Erase(sequence)) => Some(Step::TakeOff(sequence)),
-            Ok(_) => None,
+            Ok(Some(Intention::Erase(sequence))) => Some(Step::TakeOff(sequence)),
+            Ok(None) => None,
             Err(_) => refused_phase(line, address).map(Step::Put),
         }
     }
 }
 
-impl Meant {
+impl IntendedPhase {
     // The phase's position, if it has both numbers.
     pub(crate) fn position(&self) -> Option<Position>
         ensures { result ≡ position_of self.now }
@@ -106,7 +109,7 @@ impl Meant {
     }
 
     // Whether both are the same phase of the same sequence.
-    fn is_place_of(&self, other: &Meant) -> bool
+    fn is_place_of(&self, other: &IntendedPhase) -> bool
         ensures { result ≡ same_place self.now other.now }
     {
         self.position().is_some() && self.position() == other.position()
@@ -121,15 +124,17 @@ impl Meant {
 }
 
 // Where the phase of the same sequence and number stands.
-fn place_of(shelf: &[Meant], phase: &Meant) -> Option<usize>
+fn place_of(shelf: &[IntendedPhase], phase: &IntendedPhase) -> Option<usize>
     ensures value { result ≡ place_of phase.now shelf.now }
     ensures within { IfSome result (λ i. i < length shelf.now) }
 {
-    shelf.iter().position(|meant| meant.is_place_of(phase))
+    shelf
+        .iter()
+        .position(|intended| intended.is_place_of(phase))
 }
 
 // Puts a phase on the shelf, in place of the one of the same sequence and number.
-fn put(shelf: &mut Vec<Meant>, phase: Meant) -> Result<(), AllocError>
+fn put(shelf: &mut Vec<IntendedPhase>, phase: IntendedPhase) -> Result<(), AllocError>
     ensures { OnOk result (shelf.new.items ≡ replaced phase shelf.old.items) }
 {
     match place_of(shelf.as_slice(), &phase) {
@@ -140,14 +145,17 @@ fn put(shelf: &mut Vec<Meant>, phase: Meant) -> Result<(), AllocError>
 }
 
 // Takes the phases of a sequence off the shelf, or those of all.
-fn take_off(shelf: &mut Vec<Meant>, sequence: Option<u8>)
+fn take_off(shelf: &mut Vec<IntendedPhase>, sequence: Option<u8>)
     ensures { shelf.new.items ≡ kept_of sequence shelf.old.items }
 {
-    shelf.retain(|meant| !meant.is_erased_by(sequence));
+    shelf.retain(|intended| !intended.is_erased_by(sequence));
 }
 
 // Takes the step of a line with the shelf.
-pub(crate) fn take_step(shelf: &mut Vec<Meant>, step: Option<Step>) -> Result<(), AllocError>
+pub(crate) fn take_step(
+    shelf: &mut Vec<IntendedPhase>,
+    step: Option<Step>,
+) -> Result<(), AllocError>
     ensures { OnOk result (shelf.new.items ≡ stepped step shelf.old.items) }
 {
     match step {

@@ -1,13 +1,13 @@
-// Which bytes a sequence file may hold, and how the text of a line and of a phase is written.
+//! Which bytes a sequence file may hold, and how the text of a line and of a phase is written.
 ghost use Rattle.std.specs.Prelude.{◌≡◌, MatchOption};
 ghost use Rattle.sheet.specs.Characters.{is_text, AllText, FirstStray};
 ghost use Rattle.sheet.specs.ReadBack.{unframed, phase_told};
 
-use fields::read_sp;
+use fields::{read_sp, sp_values};
 use phases::{Phase, Position};
+use replies::REPLY_ROOM;
 use std::fmt;
 use texts::answer_rs;
-use values::sp_values;
 use words::Reader;
 
 // A printable character, 0Dh or 0Ah.
@@ -64,7 +64,7 @@ pub(crate) struct ReadBack {
 
 impl fmt::Display for ReadBack {
     fn fmt<W: fmt::Write>(&self, f: &mut fmt::Formatter<W>) -> fmt::Result {
-        let mut reply = [b' '; 80];
+        let mut reply = [b' '; REPLY_ROOM];
         let len = answer_rs(&self.record, &mut reply, 0, self.at).map_err(|_| fmt::Error)?;
         let text = Text(unframed(&reply[0..len]));
         write!(f, "{text}")

@@ -1,11 +1,16 @@
-// Why no proof sheet can be made of a file.
+//! Why no proof sheet can be made of a file.
 use std::fmt;
 
+/// Why no proof sheet can be made of a file.
 #[derive(Clone, Copy, Debug)]
 pub enum Unreadable {
+    /// The address is above 63.
     WrongAddress,
+    /// The first byte that is neither printable nor 0Dh nor 0Ah, and its offset, counted from 0.
     NotText { offset: usize, value: u8 },
+    /// The file holds no character of a line.
     Empty,
+    /// The heap has no room for the sheet.
     NoMemory,
 }
 

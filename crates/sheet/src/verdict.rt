@@ -1,36 +1,40 @@
-// The verdict on a phase of the shelf: what the module reads back in its place.
+//! The verdict on a phase of the shelf: what the module reads back in its place.
 ghost use Rattle.std.specs.Prelude.{◌≡◌};
 ghost use Rattle.sheet.specs.Verdicts.{Judged, is_stored};
 
-use crate::shelf::Meant;
+use crate::shelf::IntendedPhase;
 use crate::text::{ReadBack, Text};
 use phases::{Phase, Position};
 use std::fmt;
 
-// Whether the module reads back what the line means.
-// An Option of a Result would hold a phase on both sides, which only a name tells apart.
+/// Whether the module reads back what the line means.
 #[derive(Clone, Copy)]
 pub enum Verdict {
+    /// It reads back the record that is meant, which is this.
     Stored(Phase),
+    /// It reads back this record, which is not the one that is meant.
     Otherwise(Phase),
+    /// It has no phase there.
     Missing,
 }
 
-// A phase of the shelf with its verdict.
+/// A phase of the shelf with its verdict.
 #[derive(Clone, Copy)]
 pub struct ShelfPhase {
-    pub meant: Meant,
+    /// The phase that a line means to store.
+    pub intended: IntendedPhase,
+    /// What the module has in its place.
     pub verdict: Verdict,
 }
 
 impl Verdict {
     // The verdict where a line means one record, and the module reads back `found`.
-    pub(crate) fn of(meant: Option<Phase>, found: Option<Phase>) -> Verdict
-        ensures { Judged meant found result }
+    pub(crate) fn of(intended: Option<Phase>, found: Option<Phase>) -> Verdict
+        ensures { Judged intended found result }
     {
         match found {
             None => Verdict::Missing,
-            Some(stored) if meant == found => Verdict::Stored(stored),
+            Some(stored) if intended == found => Verdict::Stored(stored),
             Some(stored) => Verdict::Otherwise(stored),
         }
     }
@@ -51,11 +55,11 @@ impl ShelfPhase {
     }
 }
 
-// A number in two figures, or -- for none.
+// A number in two digits, or -- for none.
 #[derive(Clone, Copy)]
-struct Figures(Option<u8>);
+struct Digits(Option<u8>);
 
-impl fmt::Display for Figures {
+impl fmt::Display for Digits {
     fn fmt<W: fmt::Write>(&self, f: &mut fmt::Formatter<W>) -> fmt::Result {
         match self.0 {
             Some(number) => write!(f, "{number:02}"),
@@ -64,10 +68,10 @@ impl fmt::Display for Figures {
     }
 }
 
-impl Meant {
+impl IntendedPhase {
     fn write_place<W: fmt::Write>(&self, f: &mut fmt::Formatter<W>) -> fmt::Result {
-        let sequence = Figures(self.sequence);
-        let phase = Figures(self.phase);
+        let sequence = Digits(self.sequence);
+        let phase = Digits(self.phase);
         write!(f, "sequence {sequence}  phase {phase}")
     }
 
@@ -82,7 +86,7 @@ impl Meant {
     }
 
     // Writes what the line means: its record, or the line itself where it is refused.
-    fn write_meant<W: fmt::Write>(&self, f: &mut fmt::Formatter<W>) -> fmt::Result {
+    fn write_intended<W: fmt::Write>(&self, f: &mut fmt::Formatter<W>) -> fmt::Result {
         match self.record {
             Some(record) => self.write_record(f, record),
             None => {
@@ -95,21 +99,21 @@ impl Meant {
 
 impl fmt::Display for ShelfPhase {
     fn fmt<W: fmt::Write>(&self, f: &mut fmt::Formatter<W>) -> fmt::Result {
-        self.meant.write_place(f)?;
+        self.intended.write_place(f)?;
         match self.verdict {
             Verdict::Stored(record) => {
                 write!(f, "  stored      ")?;
-                self.meant.write_record(f, record)
+                self.intended.write_record(f, record)
             }
             Verdict::Otherwise(record) => {
                 write!(f, "  STORED OTHERWISE\n    the shelf:  ")?;
-                self.meant.write_meant(f)?;
+                self.intended.write_intended(f)?;
                 write!(f, "    the module: ")?;
-                self.meant.write_record(f, record)
+                self.intended.write_record(f, record)
             }
             Verdict::Missing => {
                 write!(f, "  NOT STORED  ")?;
-                self.meant.write_meant(f)
+                self.intended.write_intended(f)
             }
         }
     }

@@ -1,4 +1,4 @@
--- The sequences lie one behind the other, so a change of one leaves the others.
+-- The sequences lie one after the other, so a change of one leaves the others.
 use Rattle.std.proofs.Common.{◌≡◌, ℕ, ◌+◌, ◌-◌, ◌<◌, ◌≤◌, true, false, cond, ◌&&◌, eqb, leb, List, [], ◌∷◌, ◌++◌, length, take, drop, set, replicate, Some, None, Option, sym, refl, ap, ◌∙◌, subst, arith}
 use Rattle.std.specs.List.{remove}
 use Rattle.std.proofs.lemmas.List.{length-take, length-drop, length-set, take-append-le, drop-append-le, take-append-drop, drop-drop, nil_from_length, take-set-le, drop-set-lt, drop-take}
@@ -22,7 +22,7 @@ or_none None = refl
 or_none (Some x) = refl
 
 module _ (n : ℕ) where
-  -- records behind the reserved ones do not matter
+  -- records after the reserved ones do not matter
   pub phases_front : (bs : List Block) (m t : List Phase) → reserved bs ≤ length m → phases bs (m ++ t) n ≡ phases bs m n
   phases_front [] m t l = refl
   phases_front (b ∷ bs) m t l =
@@ -45,7 +45,7 @@ module _ (n : ℕ) where
       (elim (eqb b.number n) as (λ x. cond x (Some (take b.reserve m)) (phases (bs ++ cs) (drop b.reserve m ++ t) n) ≡ or_else (cond x (Some (take b.reserve m)) (phases bs (drop b.reserve m) n)) (phases cs t n))
       [ true ↦ refl | false ↦ phases_append bs cs (drop b.reserve m) t r ])
 
-  -- the groups before and behind a block of another number
+  -- the groups before and after a block of another number
   pub phases_around : (bs : List Block) (b : Block) (cs : List Block) (m : List Phase) → reserved bs ≤ length m → (b.number ≡ n → ⊥) → phases (bs ++ (b ∷ cs)) m n ≡ or_else (phases bs (take (reserved bs) m) n) (phases cs (drop (reserved bs + b.reserve) m) n)
   phases_around bs b cs m l ne =
       let r : reserved bs ≡ length (take (reserved bs) m) = simp length-take (omega arith) in
@@ -60,8 +60,8 @@ module _ (n : ℕ) where
 record Cut (i o : ℕ) (bs : List Block) (n : ℕ) (s : Span) : Type 0 where
   before : List Block
   block : Block
-  behind : List Block
-  whole : bs ≡ before ++ (block ∷ behind)
+  after : List Block
+  whole : bs ≡ before ++ (block ∷ after)
   named : block.number ≡ n
   first : absent n before ≡ true
   size : s.reserve ≡ block.reserve
@@ -78,7 +78,7 @@ cut_past i o b bs n e (Some s) h =
     record {
       before = b ∷ h.before;
       block = h.block;
-      behind = h.behind;
+      after = h.after;
       whole = ap (λ l. b ∷ l) h.whole;
       named = h.named;
       first = and_from _ _ (not_from_false _ e) h.first;
@@ -91,7 +91,7 @@ cut : (i o : ℕ) (bs : List Block) (n : ℕ) → CutBy i o bs n (placed i o bs 
 cut i o [] n = refl
 cut i o (b ∷ bs) n =
     cond_both (eqb b.number n) _ _ (CutBy i o (b ∷ bs) n)
-    (λ e. record { before = []; block = b; behind = bs; whole = refl; named = eqb-true _ _ e; first = refl; size = refl; start = omega arith; spot = omega arith })
+    (λ e. record { before = []; block = b; after = bs; whole = refl; named = eqb-true _ _ e; first = refl; size = refl; start = omega arith; spot = omega arith })
     (λ e. cut_past i o b bs n e (placed (i + 1) (o + b.reserve) bs n) (cut (i + 1) (o + b.reserve) bs n))
 
 -- ---- a change within one block, and one block less
@@ -138,11 +138,11 @@ module _ (bs : List Block) (m : List Phase) (n other : ℕ) (ne : n ≡ other �
   written_other : (s : Span) (j : ℕ) (p : Phase) → reserved bs ≤ length m → j < s.reserve → Cut 0 0 bs n s → phases bs (set m (s.offset + j) p) other ≡ phases bs m other
   written_other s j p l in' h =
       let w = h.whole in
-      let r : reserved (h.before ++ (h.block ∷ h.behind)) ≤ length m = subst (λ x. reserved x ≤ length m) w l in
+      let r : reserved (h.before ++ (h.block ∷ h.after)) ≤ length m = subst (λ x. reserved x ≤ length m) w l in
       let at : reserved h.before ≤ s.offset + j = omega (arith, h.start) in
       let end : s.offset + j < reserved h.before + h.block.reserve = omega (arith, h.start, h.size) in
       subst (λ x. phases x (set m (s.offset + j) p) other ≡ phases x m other) (sym w)
-      (block_changes h.before h.block h.behind m other (λ q. ne (sym h.named ∙ q)) r (set m (s.offset + j) p)
+      (block_changes h.before h.block h.after m other (λ q. ne (sym h.named ∙ q)) r (set m (s.offset + j) p)
       (length-set m (s.offset + j) p) (take-set-le _ m _ p at) (drop-set-lt _ m _ p end))
 
   sp_at : (np : ℕ) (p : Phase) → reserved bs ≤ length m → (r : Option Span) → CutBy 0 0 bs n r → phases bs (rewritten (in_span r np) p m) other ≡ phases bs m other
@@ -158,12 +158,12 @@ module _ (bs : List Block) (m : List Phase) (n other : ℕ) (ne : n ≡ other �
   se_at : reserved bs ≤ length m → (s : Span) → Cut 0 0 bs n s → phases (remove bs s.index) (closed s.offset s.reserve (reserved bs) m) other ≡ phases bs m other
   se_at l s h =
       let w = h.whole in
-      let r : reserved (h.before ++ (h.block ∷ h.behind)) ≤ length m = subst (λ x. reserved x ≤ length m) w l in
+      let r : reserved (h.before ++ (h.block ∷ h.after)) ≤ length m = subst (λ x. reserved x ≤ length m) w l in
       let i : s.index ≡ length h.before = omega (arith, h.spot) in
       let o : s.offset ≡ reserved h.before = omega (arith, h.start) in
       subst (λ x. phases (remove x s.index) (closed s.offset s.reserve (reserved x) m) other ≡ phases x m other) (sym w)
-      (rw (i, o, h.size, removed_at h.before h.block h.behind)
-      (block_goes h.before h.block h.behind m other (λ q. ne (sym h.named ∙ q)) r))
+      (rw (i, o, h.size, removed_at h.before h.block h.after)
+      (block_goes h.before h.block h.after m other (λ q. ne (sym h.named ∙ q)) r))
 
   se_by : reserved bs ≤ length m → sound bs ≡ true → (r : Option Span) → r ≡ placed 0 0 bs n → CutBy 0 0 bs n r → phases (erased_blocks bs (Some n)) (erased_records bs (Some n) m) other ≡ phases bs m other
   se_by l s None e h = subst (λ x. phases x (erased_records bs (Some n) m) other ≡ phases bs m other) (keeps_blocks bs n s e) (ap (λ x. phases bs x other) (sym (keeps_records bs n s m e)))

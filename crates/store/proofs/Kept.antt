@@ -1,5 +1,5 @@
 -- The law over whole runs, and what RS tells.
-use Rattle.std.proofs.Common.{◌≡◌, ℕ, zero, suc, ◌+◌, ◌-◌, ◌<◌, ◌≤◌, true, false, cond, not, ◌&&◌, eqb, leb, List, [], ◌∷◌, ◌++◌, length, get_or, take, drop, set, replicate, is_ok, Some, None, Ok, Err, Option, Result, sym, refl, ap, ◌∙◌, subst, inl, inr, arith, get_or-set_same}
+use Rattle.std.proofs.Common.{◌≡◌, ℕ, ◌+◌, ◌-◌, ◌<◌, ◌≤◌, true, false, cond, not, ◌&&◌, eqb, leb, List, [], ◌∷◌, ◌++◌, length, get_or, take, drop, replicate, is_ok, Some, None, Ok, Err, Option, Result, sym, refl, ap, ◌∙◌, subst, inl, inr, arith, get_or-set_same}
 use Rattle.std.proofs.Math.Seq.{take-set-lt}
 use Rattle.std.proofs.lemmas.List.{length-append, length-take, length-drop, length-set, length-replicate, drop-drop, get_or-take, get_or-drop, take_at, drop-set-add}
 use Rattle.std.proofs.lemmas.Bool.{cond_both, and_parts, leb-true, cases_Bool, false≢true, not-true, eq-eqb}
@@ -9,8 +9,9 @@ use Rattle.faults.specs.declared.Fault.{Fault}
 use Rattle.phases.specs.declared.phase.Phase.{Phase}
 use Rattle.phases.specs.Phases.{Written, blank}
 use Rattle.store.specs.Blocks.{reserved, placed, absent, sound, Within}
-use Rattle.store.specs.Records.{blanked, closed, create_answer, in_span, located, write_answer, rewritten, read_answer, without, erased_records}
-use Rattle.store.specs.Keeps.{phases, Store, Fit, Command, SN, SE, SP, step, Spares, Keeps, Tells, told, Changes, with_phase, ReadsWhatWasWritten, Examples}
+use Rattle.store.specs.Records.{blanked, closed, create_answer, in_span, located, rewritten, read_answer, without, erased_records}
+use Rattle.store.specs.Stores.{Store}
+use Rattle.store.specs.Keeps.{phases, Fit, Command, SN, SE, SP, step, Spares, Keeps, Tells, told, Changes, with_phase, ReadsWhatWasWritten, Examples}
 use Rattle.store.proofs.Sound.{reserved_append, reserved_removed, sound_push, sound_removed, within_placed}
 use Rattle.store.proofs.Asked.{created, erases_blocks, keeps_blocks, erases_records, keeps_records}
 use Rattle.store.proofs.Apart.{phases_append, sn_keeps, sp_keeps, se_keeps}
@@ -157,8 +158,8 @@ changes s n f = (
       ∙ ap (λ r. with_phase r np p) (sym (phases_placed 0 0 s.blocks n s.records)),
 )
 
-span_reads : (bs : List Block) (m : List Phase) (np : ℕ) (p : Phase) → reserved bs ≤ length m → Written p ≡ true → (r : Option Span) → Within bs r → write_answer (in_span r np) ≡ Ok tt → read_answer (in_span r np) (rewritten (in_span r np) p m) ≡ Ok (Some p)
-span_reads bs m np p l h None w e = absurd (false≢true (ap is_ok e))
+span_reads : (bs : List Block) (m : List Phase) (np : ℕ) (p : Phase) → reserved bs ≤ length m → Written p ≡ true → (r : Option Span) → Within bs r → is_ok (in_span r np) ≡ true → read_answer (in_span r np) (rewritten (in_span r np) p m) ≡ Ok (Some p)
+span_reads bs m np p l h None w e = absurd (false≢true e)
 span_reads bs m np p l h (Some s) w e =
     elim (cases_Bool (leb 1 np && leb np s.reserve)) [
       | inl t ↦
@@ -167,7 +168,7 @@ span_reads bs m np p l h (Some s) w e =
           let b : leb np s.reserve ≡ true = q.1 in
           let k : s.offset + (np - 1) < length m = omega (arith, leb-true _ _ a, leb-true _ _ b, w.1) in
           rw (t, get_or-set_same, h)
-      | inr t ↦ absurd (false≢true (ap is_ok (rw t at e)))
+      | inr t ↦ absurd (false≢true (rw t at e))
     ]
 
 pub reads_written : ReadsWhatWasWritten

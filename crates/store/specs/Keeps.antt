@@ -7,16 +7,13 @@ use Rattle.faults.specs.Faults.{no_sequence, past_reserve, memory_full}
 use Rattle.phases.specs.declared.phase.Phase.{Phase}
 use Rattle.phases.specs.Phases.{blank, Written}
 use Rattle.store.specs.Blocks.{reserved, sound, absent}
-use Rattle.store.specs.Records.{appended, blanked, create_answer, erased_blocks, erased_records, located, write_answer, rewritten, read_answer, shown}
+use Rattle.store.specs.Stores.{Store}
+use Rattle.store.specs.Records.{appended, blanked, create_answer, erased_blocks, erased_records, located, rewritten, read_answer, shown}
 
--- the phases of the sequence n, where the sequences lie one behind the other
+-- the phases of the sequence n, where the sequences lie one after the other
 abbrev pub phases : List Block → List Phase → ℕ → Option (List Phase)
 phases [] m n = None
 phases (b ∷ bs) m n = cond (b.number == n) (Some (take b.reserve m)) (phases bs (drop b.reserve m) n)
-
-pub record Store : Type 0 where
-  pub blocks : List Block
-  pub records : List Phase
 
 -- the numbers are apart, and what is reserved lies within the 414 records
 abbrev pub Fit : Store → Type 0
@@ -75,7 +72,7 @@ Changes =
 -- a phase that was written is what is read of its place afterwards
 abbrev pub ReadsWhatWasWritten : Type 0
 ReadsWhatWasWritten =
-    (s : Store) (n np : ℕ) (p : Phase) → Fit s → Written p ≡ true → write_answer (located s.blocks n np) ≡ Ok tt →
+    (s : Store) (n np : ℕ) (p : Phase) → Fit s → Written p ≡ true → is_ok (located s.blocks n np) ≡ true →
     read_answer (located s.blocks n np) (rewritten (located s.blocks n np) p s.records) ≡ Ok (Some p)
 
 -- the examples: with 400 phases reserved, creating sequence 9 with 14 is accepted, and with 15 gets 5

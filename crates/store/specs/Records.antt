@@ -3,8 +3,9 @@ use Rattle.std.specs.Prelude.{ℕ, ◌+◌, ◌-◌, Bool, cond, not, ◌&&◌, 
 use Rattle.store.specs.declared.directory.Block.{Block}
 use Rattle.store.specs.declared.directory.Span.{Span}
 use Rattle.faults.specs.declared.Fault.{Fault}
-use Rattle.faults.specs.Faults.{past_limit, no_such_phase, no_sequence, sequence_exists, memory_full, past_reserve, wrong_memory}
+use Rattle.faults.specs.Faults.{and_then, past_limit, no_such_phase, no_sequence, sequence_exists, memory_full, past_reserve, wrong_memory}
 use Rattle.phases.specs.declared.phase.Phase.{Phase}
+use Rattle.phases.specs.declared.phase.Position.{Position}
 use Rattle.phases.specs.Phases.{SequenceNumber, blank, Written}
 use Rattle.store.specs.Blocks.{reserved, placed, absent}
 
@@ -12,7 +13,7 @@ use Rattle.store.specs.Blocks.{reserved, placed, absent}
 abbrev pub blanked : ℕ → ℕ → List Phase → List Phase
 blanked from many m = take from m ++ (replicate many blank ++ drop (from + many) m)
 
--- the records with the gap of `many` at `from` closed: those behind it move up, and the last of the `used` ones are blanked
+-- the records with the gap of `many` at `from` closed: those after it move up, and the last of the `used` ones are blanked
 abbrev pub closed : ℕ → ℕ → ℕ → List Phase → List Phase
 closed from many used m = take from m ++ (drop (from + many) (take used m) ++ (replicate many blank ++ drop used m))
 
@@ -35,11 +36,6 @@ create_answer bs n many =
     (cond (not (ReserveFits many)) (Err (no_such_phase 3))
     (cond (not (absent n bs)) (Err sequence_exists)
     (cond (nat_le (reserved bs + many) 414) (Ok tt) (Err memory_full))))
-
--- SE: all sequences, or one; a number above 99 is past its limit. No sequence has the number 0, so that erasing it, like any absent one, is accepted and changes nothing
-abbrev pub erase_answer : Option ℕ → Result (Unit {0}) Fault
-erase_answer None = Ok tt
-erase_answer (Some n) = cond (nat_le n 99) (Ok tt) (Err (past_limit 2))
 
 abbrev pub without : ℕ → List Block → List Block
 without n bs = filter (λ b. not (b.number == n)) bs
@@ -65,10 +61,6 @@ in_span (Some s) np = cond (nat_le 1 np && nat_le np s.reserve) (Ok (s.offset + 
 abbrev pub located : List Block → ℕ → ℕ → Result ℕ Fault
 located bs n np = in_span (placed 0 0 bs n) np
 
-abbrev pub write_answer : Result ℕ Fault → Result (Unit {0}) Fault
-write_answer (Ok at) = Ok tt
-write_answer (Err f) = Err f
-
 abbrev pub rewritten : Result ℕ Fault → Phase → List Phase → List Phase
 rewritten (Ok at) p m = slice_set m at p
 rewritten (Err f) p m = m
@@ -76,6 +68,15 @@ rewritten (Err f) p m = m
 abbrev pub shown : Phase → Option Phase
 shown p = cond (Written p) (Some p) None
 
+-- RS
 abbrev pub read_answer : Result ℕ Fault → List Phase → Result (Option Phase) Fault
 read_answer (Ok at) m = Ok (shown (slice_index_or m at blank))
 read_answer (Err f) m = Err f
+
+abbrev pub written : Result (Option Phase) Fault → Option Phase
+written (Ok p) = p
+written (Err f) = None
+
+-- the written phase at a position, if there is one; other than 414 records hold none
+abbrev pub phase_at : List Block → List Phase → Position → Option Phase
+phase_at bs m at = written (and_then (lent m) (λ _. read_answer (located bs at.sequence at.phase) m))

@@ -1,4 +1,4 @@
-pub mod Figures
+pub mod Digits
 pub mod MarksBack
 pub mod ReadBack
 pub mod Joined

@@ -1,4 +1,4 @@
--- Marks are read as they are phase_text.
+-- Marks are read as they are written.
 use Rattle.std.proofs.Common.{◌≡◌, ℕ, zero, suc, ◌/◌, ◌%◌, ◌^◌, ◌<◌, ◌≤◌, true, length, Some, refl, ap, ◌∙◌, pow-suc, arith}
 use lib.Bits.{bit_and, and_step, and_le_l}
 use Rattle.std.proofs.lemmas.Bool.{cond-true, eq-eqb, eqb-true, and_from}

@@ -17,12 +17,12 @@ use Rattle.phases.specs.declared.phase.Phase.{Phase}
 use Rattle.phases.specs.declared.phase.Position.{Position}
 use Rattle.phases.specs.Phases.{Written, SetPointFits, LinkFits, NextFits, LevelsFit}
 use Rattle.fields.specs.declared.fields.Amount.{Amount}
-use Rattle.fields.specs.declared.fields.Course.{Course}
-use Rattle.fields.specs.declared.fields.Motion.{Motion}
+use Rattle.fields.specs.declared.fields.Options.{Options}
+use Rattle.fields.specs.declared.fields.Action.{Action}
 use Rattle.fields.specs.declared.fields.RawPhase.{RawPhase}
-use Rattle.fields.specs.Fields.{named_by, level_by, named_of, levels_of, inputs_of, link_in, past_link, inputs_in, next_in, outputs_in, address_in, motion_in, course_in, past_course, sp_form}
+use Rattle.fields.specs.Fields.{named_by, level_by, named_of, levels_of, inputs_of, link_in, past_link, inputs_in, next_in, outputs_in, position_in, action_in, options_in, past_options, sp_form}
 use Rattle.fields.proofs.Marks.{named_le}
-use Rattle.values.specs.Values.{limited, address_values, set_point_value, link_value, next_value, outputs_value, record_values, sp_values}
+use Rattle.fields.specs.Values.{limited, position_values, set_point_value, link_value, next_value, outputs_value, record_values, sp_values}
 use Rattle.texts.specs.ReadBack.{TakesWritten}
 
 said : {A : Type 0} (o : Option A) (f : Fault) (a : A) → ok_or o f ≡ Ok a → o ≡ Some a
@@ -55,9 +55,9 @@ either_fit false o i e h =
     let same : ◌≡◌ {A = Inputs} (record { named = 0; levels = 0 }) e = cc in
     ap LevelsFit (sym same)
 
-course_fit : (s : Ahead) (c : Course) → course_in s ≡ Ok c → LevelsFit c.inputs ≡ true
-unfolding course_in inputs_in
-course_fit s c h =
+options_fit : (s : Ahead) (c : Options) → options_in s ≡ Ok c → LevelsFit c.inputs ≡ true
+unfolding options_in inputs_in
+options_fit s c h =
     let l = then_ok (link_in s) _ c h in
     let e = then_ok (inputs_in (past_link s)) _ c l.1.1 in
     let f = then_ok (next_in (past_field (codes "NE") (past_link s))) _ c e.1.1 in
@@ -65,15 +65,15 @@ course_fit s c h =
     let same : e.0 ≡ c.inputs = (let k = o.1.1 in cc) in
     subst (λ (i : Inputs). LevelsFit i ≡ true) same (either_fit (is_tag (codes "NE") (upcoming (past_link s))) (upcoming (past (past_link s))) (past (past_link s)).1 e.0 e.1.0)
 
-form_fit : (s : Ahead) (r : RawPhase) → sp_form s ≡ Ok r → LevelsFit r.course.inputs ≡ true
+form_fit : (s : Ahead) (r : RawPhase) → sp_form s ≡ Ok r → LevelsFit r.options.inputs ≡ true
 form_fit s r h =
     let u = past (past (past (past (past s)))) in
-    let a = then_ok (address_in s) _ r h in
-    let m = then_ok (motion_in (past (past s))) _ r a.1.1 in
-    let c = then_ok (course_in u) _ r m.1.1 in
-    let e = then_ok (end (past_course u)) _ r c.1.1 in
-    let same : c.0 ≡ r.course = (let k = e.1.1 in cc) in
-    subst (λ (d : Course). LevelsFit d.inputs ≡ true) same (course_fit u c.0 c.1.0)
+    let a = then_ok (position_in s) _ r h in
+    let m = then_ok (action_in (past (past s))) _ r a.1.1 in
+    let c = then_ok (options_in u) _ r m.1.1 in
+    let e = then_ok (end (past_options u)) _ r c.1.1 in
+    let same : c.0 ≡ r.options = (let k = e.1.1 in cc) in
+    subst (λ (d : Options). LevelsFit d.inputs ≡ true) same (options_fit u c.0 c.1.0)
 
 link_fit : (k : Option (Link Amount)) (l : Option (Link ℕ)) → link_value k ≡ Ok l → LinkFits l ≡ true
 unfolding link_value limited
@@ -94,7 +94,7 @@ unfolding next_value
 next_fit None o h = let same : ◌≡◌ {A = Option ℕ} None o = cc in ap NextFits (sym same)
 next_fit (Some a) o h = let t = tested _ (Some a.value) o _ h in subst (λ (q : Option ℕ). NextFits q ≡ true) t.1 t.0
 
-record_fit : (m : Motion) (c : Course) (p : Phase) → LevelsFit c.inputs ≡ true → record_values m c ≡ Ok p → Written p ≡ true
+record_fit : (m : Action) (c : Options) (p : Phase) → LevelsFit c.inputs ≡ true → record_values m c ≡ Ok p → Written p ≡ true
 unfolding record_values set_point_value
 record_fit m c p w h =
     let z = then_ok (set_point_value m) _ p h in
@@ -103,7 +103,7 @@ record_fit m c p w h =
     let o = then_ok (outputs_value c.outputs) _ p f.1.1 in
     let t = tested _ m.set_point z.0 _ z.1.0 in
     let s : SetPointFits m.nature z.0 ≡ true = ap (SetPointFits m.nature) (sym t.1) ∙ t.0 in
-    let q : Phase = record { written = true; sense = m.sense; nature = m.nature; set_point = z.0; link = l.0; inputs = c.inputs; next = f.0; outputs = o.0 } in
+    let q : Phase = record { written = true; direction = m.direction; nature = m.nature; set_point = z.0; link = l.0; inputs = c.inputs; next = f.0; outputs = o.0 } in
     let same : q ≡ p = (let k = o.1.1 in cc) in
     subst (λ (r : Phase). Written r ≡ true) same (and_from _ _ s (and_from _ _ (link_fit _ _ l.1.0) (and_from _ _ (next_fit _ _ f.1.0) w)))
 
@@ -114,7 +114,7 @@ pub takes_written : TakesWritten
 unfolding sp_values
 takes_written t at p h =
     let r = then_ok (sp_form (words t, 2)) _ (at, p) h in
-    let a = then_ok (address_values r.0.address) _ (at, p) r.1.1 in
-    let q = then_ok (record_values r.0.motion r.0.course) _ (at, p) a.1.1 in
+    let a = then_ok (position_values r.0.at) _ (at, p) r.1.1 in
+    let q = then_ok (record_values r.0.action r.0.options) _ (at, p) a.1.1 in
     let same : q.0 ≡ p = second a.0 at q.0 p q.1.1 in
-    subst (λ (s : Phase). Written s ≡ true) same (record_fit r.0.motion r.0.course q.0 (form_fit (words t, 2) r.0 r.1.0) q.1.0)
+    subst (λ (s : Phase). Written s ≡ true) same (record_fit r.0.action r.0.options q.0 (form_fit (words t, 2) r.0 r.1.0) q.1.0)

@@ -8,9 +8,9 @@ use Rattle.phases.specs.declared.phase.Position.{Position}
 use Rattle.fields.specs.Fields.{sp_form}
 use Rattle.phases.specs.Phases.{Written}
 use Rattle.texts.specs.Texts.{phase_text}
-use Rattle.values.specs.Values.{sp_values}
+use Rattle.fields.specs.Values.{sp_values}
 
--- what SP takes from the text behind its name: the form of each word first, then the values
+-- what SP takes from the text after its name: the form of each word first, then the values
 abbrev pub sp_taken : List ℕ → Result (Position × Phase) Fault
 sp_taken t = and_then (sp_form (words t, 2)) sp_values
 

@@ -1,4 +1,4 @@
-// The text of a phase in the answer to RS, which SP takes back.
+//! The text of a phase in the answer to RS, which SP takes back.
 #![tactic(auto)]
 
 mod laws;

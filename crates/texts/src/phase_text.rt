@@ -1,29 +1,13 @@
-// Writes the read-back text of a phase.
+//! Writes the read-back text of a phase.
 ghost use Rattle.std.specs.Prelude.{◌≡◌, ◌+◌, ◌≤◌, [], ◌∷◌, IfOk, OnOk};
 ghost use Rattle.words.specs.Words.{spaced};
 ghost use Rattle.replies.specs.Replies.{Room, Wrote, answered};
 ghost use Rattle.texts.specs.ReadBack.{ByteOrNone, Bytes, TakenBack};
-ghost use Rattle.texts.specs.Texts.{nature_word, link_tag, link_word, mark as mark_of, marks, next_word, outputs_word, motion_words, course_words, phase_text, rs_found, rs_text};
+ghost use Rattle.texts.specs.Texts.{link_tag, link_word, mark as mark_of, marks, number_word, outputs_word, action_words, option_words, phase_text, rs_found, rs_text};
 
 use faults::Fault;
-use phases::{Inputs, Link, Nature, Phase, Position};
+use phases::{Inputs, Link, Phase, Position};
 use replies::{Reply, check_room};
-
-fn nature_letters(nature: Nature) -> [u8; 2]
-    ensures { result ≡ nature_word nature }
-{
-    match nature {
-        Nature::Relative => *b"NP",
-        Nature::Origin => *b"NH",
-        Nature::Absolute => *b"NX",
-        Nature::ConstantSpeed => *b"NV",
-        Nature::Wait => *b"NW",
-        Nature::ZeroCounter => *b"NZ",
-        Nature::PlateauSpeed => *b"NC",
-        Nature::PowerOn => *b"NT",
-        Nature::PowerOff => *b"NU",
-    }
-}
 
 // X where the input is not named, else the wanted level; both are bits of the inputs.
 fn mark(named: u8, level: u8) -> u8
@@ -49,19 +33,19 @@ fn write_marks(reply: &mut Reply, inputs: Inputs)
     }
 }
 
-// Writes a number in two figures, or XX for none. Outputs are written in another base, so that one function for both would take more words.
+// Writes a number in two digits, or XX for none.
 fn write_number(reply: &mut Reply, number: Option<u8>)
     requires { Room reply.old 2 }
-    ensures wrote { Wrote reply.old reply.new (next_word number) }
+    ensures wrote { Wrote reply.old reply.new (number_word number) }
     ensures len { reply.new.len ≡ reply.old.len + 2 }
 {
     match number {
         None => reply.text(b"XX"),
-        Some(number) => reply.figures(u32::from(number), 2),
+        Some(number) => reply.digits(u32::from(number), 2),
     }
 }
 
-// Writes outputs, or XX for none.
+// Writes outputs in two hexadecimal digits, or XX for none.
 fn write_outputs(reply: &mut Reply, outputs: Option<u8>)
     requires { Room reply.old 2 }
     ensures byte { ByteOrNone outputs }
@@ -90,74 +74,74 @@ fn write_link(reply: &mut Reply, link: Option<Link<u8>>)
 }
 
 // Writes what the phase does.
-fn write_motion(p: &Phase, reply: &mut Reply)
+fn write_action(phase: &Phase, reply: &mut Reply)
     requires { Room reply.old 15 }
-    ensures wrote { Wrote reply.old reply.new (spaced (motion_words p.now)) }
+    ensures wrote { Wrote reply.old reply.new (spaced (action_words phase.now)) }
     ensures len { reply.new.len ≡ reply.old.len + 15 }
 {
-    reply.text(&[b'S', p.sense.sign()]);
+    reply.text(&[b'S', phase.direction.sign()]);
     reply.text(b" ");
-    reply.text(&nature_letters(p.nature));
+    reply.text(phase.nature.letters());
     reply.text(b" C");
-    reply.signed(p.set_point, 7);
+    reply.signed(phase.set_point, 7);
 }
 
-// Writes how the run goes on.
-fn write_course(p: &Phase, reply: &mut Reply)
+// Writes the fields that SP may leave out.
+fn write_options(phase: &Phase, reply: &mut Reply)
     requires { Room reply.old 29 }
-    ensures bytes { Bytes p.now }
-    ensures wrote { Wrote reply.old reply.new (spaced (course_words p.now)) }
+    ensures bytes { Bytes phase.now }
+    ensures wrote { Wrote reply.old reply.new (spaced (option_words phase.now)) }
     ensures len { reply.new.len ≡ reply.old.len + 29 }
 {
-    write_link(reply, p.link);
+    write_link(reply, phase.link);
     reply.text(b" NE ");
-    write_marks(reply, p.inputs);
+    write_marks(reply, phase.inputs);
     reply.text(b" NS ");
-    write_number(reply, p.next);
+    write_number(reply, phase.next);
     reply.text(b" NO ");
-    write_outputs(reply, p.outputs);
+    write_outputs(reply, phase.outputs);
 }
 
 // Writes the text of a phase and its position.
-fn write_phase(p: &Phase, reply: &mut Reply, at: Position)
+fn write_phase(phase: &Phase, reply: &mut Reply, at: Position)
     requires { Room reply.old 51 }
-    ensures bytes { Bytes p.now }
-    ensures wrote { Wrote reply.old reply.new (phase_text at.sequence at.phase p.now) }
+    ensures bytes { Bytes phase.now }
+    ensures wrote { Wrote reply.old reply.new (phase_text at.sequence at.phase phase.now) }
     ensures len { reply.new.len ≡ reply.old.len + 51 }
 {
-    reply.figures(u32::from(at.sequence), 2);
+    reply.digits(u32::from(at.sequence), 2);
     reply.text(b" ");
-    reply.figures(u32::from(at.phase), 2);
+    reply.digits(u32::from(at.phase), 2);
     reply.text(b" ");
-    write_motion(p, reply);
+    write_action(phase, reply);
     reply.text(b" ");
-    write_course(p, reply);
+    write_options(phase, reply);
 }
 
 // Writes the phase that is found, or X where it is unwritten.
 #[tactic(auto, using(crate::proofs::Found::found_text, crate::proofs::Found::unfound_text, crate::proofs::Found::unfound_back, crate::proofs::ReadBack::reads_back))]
-fn write_found(p: &Phase, reply: &mut Reply, at: Position)
+fn write_found(phase: &Phase, reply: &mut Reply, at: Position)
     requires { Room reply.old 51 }
-    ensures back { TakenBack at p.now }
-    ensures wrote { Wrote reply.old reply.new (rs_found at.sequence at.phase p.now) }
+    ensures back { TakenBack at phase.now }
+    ensures wrote { Wrote reply.old reply.new (rs_found at.sequence at.phase phase.now) }
     ensures len { reply.new.len ≤ reply.old.len + 51 }
 {
-    if p.is_written() {
-        write_phase(p, reply, at);
+    if phase.is_written() {
+        write_phase(phase, reply, at);
     } else {
         reply.text(b"X");
     }
 }
 
-// Answers RS at the module's address with this record, the phase at that position. Buffer and address are lent for one call and handed on
-// to `Reply::begin`: a struct of both would be taken apart there.
-pub fn answer_rs(p: &Phase, out: &mut [u8], address: u8, at: Position) -> Result<usize, Fault>
-    ensures back { OnOk result (TakenBack at p.now) }
+/// Answers RS at the module's address: the text of this record, the phase at that position, or X where it is not written. Tells the
+/// length of the reply in bytes, or refuses a buffer that has no room for a reply.
+pub fn answer_rs(phase: &Phase, out: &mut [u8], address: u8, at: Position) -> Result<usize, Fault>
+    ensures back { OnOk result (TakenBack at phase.now) }
     ensures length { IfOk result (λ n. n ≤ 58) }
-    ensures answer { (result, out.new) ≡ answered (rs_text address at.sequence at.phase p.now) out.old }
+    ensures answer { (result, out.new) ≡ answered (rs_text address at.sequence at.phase phase.now) out.old }
 {
     check_room(out)?;
     let mut reply = Reply::begin(out, address, b"ES ");
-    write_found(p, &mut reply, at);
+    write_found(phase, &mut reply, at);
     Ok(reply.finish())
 }

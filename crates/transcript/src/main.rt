@@ -1,10 +1,7 @@
-// Plays scripts of calls on modules, and prints what every call answered.
+//! Plays scripts of calls on modules, and prints what every call answered.
 #![tactic(auto)]
 
-mod request;
-
-use programs::{Failed, Program};
-use request::{Request, read_request};
+use programs::{Failed, Program, script_request};
 use scripts::{Transcript, transcribe};
 use std::io::Write;
 use std::process::ExitCode;
@@ -49,22 +46,15 @@ fn play_file(program: &Program, file: &str) -> Result<(), Failed> {
     program.with_file(file, |name, bytes| print_transcript(program, name, bytes))
 }
 
-// Plays every file, and fails if one of them did.
+// Plays every file, or standard input where there is none, and fails if one of them did.
 fn play_files(program: &Program, files: &[String]) -> Result<(), Failed> {
+    if files.is_empty() {
+        return play_file(program, "-");
+    }
     files.iter().fold(
         Ok(()),
         |played, file| play_file(program, file.as_str()).and(played),
     )
-}
-
-// Does what the arguments ask for. The requests are the program's own, so that the library of both cannot match them.
-fn follow(program: &Program, words: &[String]) -> Result<(), Failed> {
-    match read_request(words) {
-        Ok(Request::Usage) => Ok(println!(program.rt; "{USAGE}")?),
-        Ok(Request::Input) => play_file(program, "-"),
-        Ok(Request::Files(files)) => play_files(program, files),
-        Err(wrong) => program.refuse(wrong),
-    }
 }
 
 fn main(rt: HostRuntime) -> ExitCode {
@@ -73,5 +63,5 @@ fn main(rt: HostRuntime) -> ExitCode {
         name: "transcript",
         usage: USAGE,
     };
-    program.run(|words| follow(&program, words))
+    program.run(|words| program.follow(script_request(words), |files| play_files(&program, files)))
 }

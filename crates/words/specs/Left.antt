@@ -4,7 +4,7 @@ use Rattle.std.specs.Borrow.{Bor}
 use Rattle.words.specs.declared.reader.Reader.{Reader}
 use Rattle.words.specs.Words.{words, Ahead}
 
--- the words of what is left of a line; None is left behind the last word
+-- the words of what is left of a line; None is left after the last word
 abbrev pub left_in : Option (Bor (List ℕ)) → List (List ℕ)
 left_in None = []
 left_in (Some rest) = words rest.now

@@ -24,7 +24,7 @@ abbrev pub by : {A : Type 0} → (List ℕ → Option A) → Option (List ℕ) �
 by rule None i = Err (wrong_form i)
 by rule (Some w) i = ok_or (rule w) (wrong_form i)
 
--- the word behind a field's tag by a rule, or `absent` where the tag does not stand there
+-- the word after a field's tag by a rule, or `absent` where the tag does not stand there
 abbrev pub field_by : {A : Type 0} → List ℕ → (List ℕ → Option A) → A → Ahead → Result A Fault
 field_by tag rule absent s = cond (is_tag tag (upcoming s)) (by rule (upcoming (past s)) (past s).1) (Ok absent)
 
@@ -40,7 +40,7 @@ end s = end_at (upcoming s) s.1
 abbrev pub unsigned : Ahead → Result ℕ Fault
 unsigned s = by (value_of 10 10) (upcoming s) s.1
 
--- the next word as a number behind a sign or none
+-- the next word as a number after a sign or none
 abbrev pub signed : Ahead → Result ℤ Fault
 signed s = by signed_of (upcoming s) s.1
 
@@ -48,15 +48,15 @@ signed s = by signed_of (upcoming s) s.1
 abbrev pub hexadecimal : Ahead → Result ℕ Fault
 hexadecimal s = by (value_of 16 8) (upcoming s) s.1
 
--- one word of a form, and none behind it
-abbrev pub only : {A : Type 0} → (Ahead → Result A Fault) → Ahead → Result A Fault
-only form s = and_then (form s) (λ x. and_then (end (past s)) (λ _. Ok x))
+-- what was read, where no word is ahead
+abbrev pub alone : {A : Type 0} → Result A Fault → Ahead → Result A Fault
+alone said s = and_then said (λ x. and_then (end s) (λ _. Ok x))
 
 unfoldable pub only_unsigned : Ahead → Result ℕ Fault
-only_unsigned s = only unsigned s
+only_unsigned s = alone (unsigned s) (past s)
 
 unfoldable pub only_signed : Ahead → Result ℤ Fault
-only_signed s = only signed s
+only_signed s = alone (signed s) (past s)
 
 unfoldable pub only_hexadecimal : Ahead → Result ℕ Fault
-only_hexadecimal s = only hexadecimal s
+only_hexadecimal s = alone (hexadecimal s) (past s)

@@ -1,4 +1,4 @@
-// The words of a line: what stands between single spaces, each told with its number.
+//! The words of a line: what stands between single spaces, each told with its number.
 #![tactic(auto)]
 
 mod numbers;

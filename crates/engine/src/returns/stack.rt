@@ -1,5 +1,5 @@
-// At most four sub-sequences are open.
-ghost use Rattle.std.specs.Prelude.{◌≡◌, [], ◌∷◌, is_ok, if◌then◌else◌};
+//! At most four sub-sequences are open.
+ghost use Rattle.std.specs.Prelude.{◌≡◌, [], ◌∷◌, is_ok, if◌then◌else◌, length};
 ghost use Rattle.engine.specs.Stacks.{opened, latest, earlier};
 ghost use Rattle.engine.specs.Leaving.{one_more};
 
@@ -11,6 +11,7 @@ use phases::Position;
 const MOST_OPEN: usize = 4;
 
 impl Returns {
+    /// No sub-sequence is open.
     pub fn new() -> Returns
         ensures { opened result ≡ [] }
     {
@@ -20,7 +21,14 @@ impl Returns {
         }
     }
 
-    // Opens one more, unless four are open.
+    /// How many are open, at most four.
+    pub fn depth(&self) -> usize
+        ensures { result ≡ length (opened self.now) }
+    {
+        self.depth
+    }
+
+    /// Opens one more, which returns to that phase, or without one to the end of the run. Four that are open already: fault 10.
     pub fn push(&mut self, next: Option<Position>) -> Result<(), Fault>
         ensures answer { result ≡ one_more (opened self.old) }
         ensures after { opened self.new ≡ (if is_ok result then next ∷ opened self.old else opened self.old) }
@@ -33,7 +41,7 @@ impl Returns {
         Ok(())
     }
 
-    // Closes the latest, if one is open, and answers where it returns to; that may be the end of the run.
+    /// Closes the latest, if one is open, and answers where it returns to; that may be the end of the run.
     pub fn pop(&mut self) -> Option<Option<Position>>
         ensures answer { result ≡ latest (opened self.old) }
         ensures after { opened self.new ≡ earlier (opened self.old) }

@@ -1,16 +1,17 @@
-// The tick that enters a phase: it sets NO and starts the movement or the wait.
+//! The tick that enters a phase: it sets NO and starts the movement or the wait.
 ghost use Rattle.std.specs.Prelude.{◌≡◌};
 ghost use Rattle.engine.specs.Progress.{progress, outcome};
 ghost use Rattle.engine.specs.Surroundings.{program, moment};
 ghost use Rattle.engine.specs.Entering.{power_of, entered, moves_by, starts, phase_at, enters};
 
-use super::{Run, State};
+use super::{PhaseState, Run};
 use crate::distance::distance_of;
-use crate::effects::{Effects, Power};
+use crate::effects::Effects;
 use crate::outcome::Outcome;
 use crate::surroundings::Surroundings;
 use motion::{Distance, Movement, Speed};
 use phases::{Nature, Phase};
+use steps::Power;
 
 const TICKS_PER_MS: u64 = 40;
 
@@ -50,7 +51,7 @@ impl Run {
     {
         let effects = entered(&phase);
         match Movement::new(here.parameters, self.plateau, distance, constant) {
-            Some(movement) => self.stay(effects, State::Moving(phase, movement)),
+            Some(movement) => self.stay(effects, PhaseState::Moving(phase, movement)),
             None => self.end_phase(effects, phase, here),
         }
     }
@@ -66,10 +67,10 @@ impl Run {
             Nature::Origin => (Distance::to(0, here.counter), false),
             Nature::Wait => {
                 let ticks = TICKS_PER_MS * u64::from(phase.set_point.unsigned_abs());
-                return self.stay(entered(&phase), State::Waiting(phase, ticks));
+                return self.stay(entered(&phase), PhaseState::Waiting(phase, ticks));
             }
             Nature::PlateauSpeed => {
-                self.plateau = Speed::new(phase.set_point);
+                self.plateau = Speed::of_set_point(phase.set_point);
                 return self.end_phase(entered(&phase), phase, here);
             }
             _ => return self.end_phase(entered(&phase), phase, here),
@@ -77,7 +78,7 @@ impl Run {
         self.start_movement(phase, distance, constant, here)
     }
 
-    // An unwritten phase, or one past the reserve, ends the run or returns from the sub-sequence.
+    // Where no written phase stands, the latest open sub-sequence returns, and without one the run is over.
     pub(crate) fn enter(self, here: &Surroundings) -> Outcome
         ensures { outcome result ≡ enters (program here.now) (moment here.now) (progress self) (phase_at (program here.now) self.at) }
     {

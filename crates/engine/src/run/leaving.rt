@@ -1,11 +1,11 @@
-// The tick in which a phase ends: its NE is tested, and its link, its NS or the following phase is taken.
+//! A phase is over: NE decides whether its link or its NS counts, or the phase that follows it.
 ghost use Rattle.std.specs.Prelude.{◌≡◌};
 ghost use Rattle.store.specs.Directories.{sequences};
 ghost use Rattle.engine.specs.Progress.{progress, progress_left, progress_result, outcome};
 ghost use Rattle.engine.specs.Surroundings.{program, moment};
 ghost use Rattle.engine.specs.Leaving.{agrees, found_first, goes_on, linked, leaves, returns_from, phase_ended};
 
-use super::{Run, State};
+use super::{PhaseState, Run};
 use crate::effects::Effects;
 use crate::fault::run_fault;
 use crate::outcome::Outcome;
@@ -37,12 +37,12 @@ impl Run {
     {
         Some(Run {
             at: next?,
-            state: State::Entering,
+            state: PhaseState::Entering,
             ..self
         })
     }
 
-    // The link is taken, to phase 1; without a link `next` is.
+    // A link leads to the first phase of its sequence; a phase without one goes on with `next`.
     fn link(
         mut self,
         next: Option<Position>,

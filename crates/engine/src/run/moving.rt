@@ -1,11 +1,11 @@
-// A tick of a movement or of a wait, and the slow stop.
+//! A tick of a movement or of a wait, and the slow stop.
 ghost use Rattle.std.specs.Prelude.{◌≡◌};
 ghost use Rattle.motion.specs.Motions.{motion, tick_rest};
 ghost use Rattle.engine.specs.Progress.{progress, progress_left, outcome};
 ghost use Rattle.engine.specs.Surroundings.{program, moment};
 ghost use Rattle.engine.specs.Ticks.{moved, waited, stopped_run};
 
-use super::{Run, State};
+use super::{PhaseState, Run};
 use crate::effects::Effects;
 use crate::outcome::Outcome;
 use crate::surroundings::Surroundings;
@@ -23,7 +23,7 @@ impl Run {
             ..Effects::default()
         };
         match rest {
-            Some(rest) => self.stay(effects, State::Moving(phase, rest)),
+            Some(rest) => self.stay(effects, PhaseState::Moving(phase, rest)),
             None if movement.is_stopping() => Outcome {
                 effects,
                 rest: None,
@@ -38,19 +38,19 @@ impl Run {
         if ticks <= 1 {
             return self.end_phase(Effects::default(), phase, here);
         }
-        self.stay(Effects::default(), State::Waiting(phase, ticks - 1))
+        self.stay(Effects::default(), PhaseState::Waiting(phase, ticks - 1))
     }
 
     // GE: the run if its movement goes on.
     pub(crate) fn slow_stop(self) -> Option<Run>
-        ensures { progress_left result ≡ stopped_run (progress self) (progress self).activity }
+        ensures { progress_left result ≡ stopped_run (progress self) (progress self).state }
     {
-        let State::Moving(phase, movement) = self.state else {
+        let PhaseState::Moving(phase, movement) = self.state else {
             return None;
         };
         let rest = movement.stop()?;
         Some(Run {
-            state: State::Moving(phase, rest),
+            state: PhaseState::Moving(phase, rest),
             ..self
         })
     }

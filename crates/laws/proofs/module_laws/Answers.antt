@@ -1,5 +1,7 @@
 use Rattle.laws.proofs.Called.{runs_only_when_called}
+use Rattle.laws.proofs.Ended.{outputs_at_the_end}
 use Rattle.laws.proofs.Powered.{power_while_moving, no_step_refused}
+use Rattle.laws.proofs.Done.{accepted_is_done}
 use Rattle.laws.proofs.Stored.{tells_what_was_stored}
 use Rattle.laws.proofs.module_laws.Goals as goal
 
@@ -7,6 +9,8 @@ pub returns : goal.returns
 returns c = record {
   called = runs_only_when_called;
   stored = tells_what_was_stored;
+  done = accepted_is_done;
+  outputs = outputs_at_the_end;
   power = power_while_moving c.run_laws.ensures.power;
   steps = no_step_refused c.run_laws.ensures.power;
 }

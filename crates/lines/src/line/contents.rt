@@ -1,14 +1,12 @@
-// What a line keeps of its characters, and what it says.
+//! What a line keeps of its characters, and what it says.
 ghost use Rattle.std.specs.Prelude.{◌≡◌, List, [], ◌∷◌, ◌++◌};
 ghost use Rattle.std.specs.Result.{result_map_both};
 ghost use Rattle.lines.specs.Characters.{Character as Arrival, addressee_of, received};
 ghost use Rattle.lines.specs.Lines.{kept, kept_of, taken, is_own_in, is_broadcast_in, addressee_in, text_in};
 
-use super::{Addressee, Line};
+use super::{Addressee, CAPACITY, Line};
 use crate::character::Character;
 use faults::Fault;
-
-const CAPACITY: usize = 64;
 
 impl Line {
     // The line of no characters.
@@ -39,7 +37,7 @@ impl Line {
         }
     }
 
-    // The characters that are kept, at most the first 64.
+    /// The characters that are kept, damaged or not: at most the first 64.
     pub fn characters(&self) -> &[u8]
         ensures { result.now ≡ (kept self.now).characters }
     {
@@ -65,7 +63,8 @@ impl Line {
             && !self.first_damaged
     }
 
-    // Whom the line is for, at a module of the address.
+    /// Whom the line is for, at a module of the address. An own line begins with the two digits of the address, a broadcast with a
+    /// capital letter, and none of these is damaged.
     pub fn addressee(&self, address: u8) -> Addressee
         ensures value { result ≡ addressee_in address (kept self.now) }
         ensures list { (cs : List Arrival) → kept self.now ≡ kept_of cs → result ≡ addressee_of address cs }
@@ -79,7 +78,7 @@ impl Line {
         }
     }
 
-    // The line behind its first `from` characters, or why the line is refused.
+    /// The line after its first `from` characters. A line that has over 64 characters or a damaged one is refused.
     pub fn text(&self, from: usize) -> Result<&[u8], Fault>
         ensures value { result_map_both (λ x. x.now) (λ f. f) result ≡ text_in from (kept self.now) }
         ensures list { (cs : List Arrival) → kept self.now ≡ kept_of cs → result_map_both (λ x. x.now) (λ f. f) result ≡ received from cs }

@@ -1,78 +1,53 @@
-// A finished line: judged, carried out and answered. The room of the buffer is tested in the public call alone, and asked for
-// behind it: a type for a tested buffer would be taken apart again at each answer.
-ghost use Rattle.std.specs.Prelude.{◌≡◌, ◌≤◌, true, length, None};
+//! A finished line: judged, carried out and answered.
+ghost use Rattle.std.specs.Prelude.{◌≡◌, ◌≤◌, cond, length, None};
 ghost use Rattle.lines.specs.Lines.{kept};
-ghost use Rattle.questions.specs.Questions.{fault_text, refused as refused_text};
-ghost use Rattle.module.specs.Rests.{obeyed_rest};
-ghost use Rattle.module.specs.Lines.{answered_to, order_outcome, outcome_of, line_outcome};
-ghost use Rattle.module.specs.Views.{rest_in, core_in, done_in, sent};
+ghost use Rattle.orders.specs.Judged.{Shown};
+ghost use Rattle.control.specs.States.{state, situation, store_of};
+ghost use Rattle.module.specs.States.{order_done, obeyed_state};
+ghost use Rattle.module.specs.Lines.{line_outcome};
+ghost use Rattle.module.specs.Views.{module_in, core_in, done_in, sent};
 
 use super::Module;
 use crate::effects::change;
+use control::{Answer, Change};
 use faults::Fault;
-use lines::{Addressee, Line};
-use orders::Order;
+use lines::Line;
+use orders::{Judgement, Order};
 use outputs::StepOutput;
 use phases::Phase;
-use questions::{answer_fault, refuse};
-
-// The reply to a refused line, to an own line alone, as in `reply`: one match for both would take the writing as a closure over the module.
-fn refusal(to: Addressee, out: &mut [u8]) -> Result<usize, Fault>
-    requires { 80 ≤ length out.old }
-    ensures { (result, out.new) ≡ sent (answered_to to refused_text) out.old }
-{
-    match to {
-        Addressee::Own => refuse(out),
-        Addressee::Broadcast | Addressee::Stranger => Ok(0),
-    }
-}
+use questions::refuse;
 
 impl<O: StepOutput> Module<O> {
-    // Carries an order out.
-    #[tactic(auto, unfolding(crate::specs::Rests::obeyed_rest))]
-    fn obey(&mut self, order: Order, memory: &mut [Phase])
-        ensures rest { rest_in self.new memory.new ≡ obeyed_rest (rest_in self.old memory.old) order }
+    // Carries out an order that is accepted.
+    #[tactic(auto, unfolding(crate::specs::States::obeyed_state))]
+    fn obey(&mut self, order: Order, records: &mut [Phase]) -> Change
+        requires length { length records.old ≡ 414 }
+        requires shown { Shown (situation (state self.old.control)) (store_of (state self.old.control) records.old) order }
+        ensures change { result ≡ (order_done (module_in self.old records.old) order).change }
+        ensures state { module_in self.new records.new ≡ obeyed_state (module_in self.old records.old) order }
         ensures fault { self.new.fault ≡ self.old.fault }
         ensures receiver { self.new.receiver ≡ self.old.receiver }
     {
-        let made = self.control.obey(order, memory, self.axis.counter());
+        let made = self.control.obey(order, records, self.axis.counter());
         change(&mut self.axis, made);
+        made
     }
 
-    // RX tells the fault record and clears it.
-    fn tell_fault(&mut self, out: &mut [u8]) -> Result<usize, Fault>
-        requires { 80 ≤ length out.old }
-        ensures reply { (result, out.new) ≡ sent (fault_text self.old.control.address self.old.fault) out.old }
-        ensures fault { self.new.fault ≡ None }
-        ensures control { self.new.control ≡ self.old.control }
-        ensures axis { self.new.axis ≡ self.old.axis }
+    // Carries out an order that is accepted, and answers how the line is to be answered; the fault record is cleared where the order
+    // says so.
+    fn accept(&mut self, order: Order, records: &mut [Phase]) -> Answer
+        requires length { length records.old ≡ 414 }
+        requires shown { Shown (situation (state self.old.control)) (store_of (state self.old.control) records.old) order }
+        ensures answer { result ≡ (order_done (module_in self.old records.old) order).change.answer }
+        ensures state { module_in self.new records.new ≡ obeyed_state (module_in self.old records.old) order }
+        ensures fault { self.new.fault ≡ cond (order_done (module_in self.old records.old) order).change.clears_fault None self.old.fault }
         ensures receiver { self.new.receiver ≡ self.old.receiver }
     {
-        answer_fault(out, self.control.address, self.fault.take())
-    }
-
-    // An accepted order: RX tells the fault record, MR clears it.
-    fn accept(
-        &mut self,
-        to: Addressee,
-        order: Order,
-        memory: &mut [Phase],
-        out: &mut [u8],
-    ) -> Result<usize, Fault>
-        requires { 80 ≤ length out.old }
-        ensures core { core_in O.CYCLE self.new memory.new ≡ (done_in O.CYCLE self.old memory.old (order_outcome O.CYCLE (rest_in self.old memory.old) to order)).0 }
-        ensures reply { (result, out.new) ≡ sent (done_in O.CYCLE self.old memory.old (order_outcome O.CYCLE (rest_in self.old memory.old) to order)).1 out.old }
-        ensures receiver { self.new.receiver ≡ self.old.receiver }
-    {
-        if matches!(order, Order::ReadFault) {
-            return self.tell_fault(out);
-        }
-        let answer = self.reply(to, order, memory, out);
-        self.obey(order, memory);
-        if matches!(order, Order::Restart) {
+        let made = self.obey(order, records);
+        if made.clears_fault {
             self.fault = None;
         }
-        answer
+        made.answer
     }
 
     // A finished line.
@@ -80,22 +55,34 @@ impl<O: StepOutput> Module<O> {
     pub(crate) fn finish(
         &mut self,
         line: &Line,
-        memory: &mut [Phase],
+        records: &mut [Phase],
         out: &mut [u8],
     ) -> Result<usize, Fault>
-        requires { 80 ≤ length out.old }
-        ensures core { core_in O.CYCLE self.new memory.new ≡ (done_in O.CYCLE self.old memory.old (line_outcome O.CYCLE (rest_in self.old memory.old) (kept line.now))).0 }
-        ensures reply { (result, out.new) ≡ sent (done_in O.CYCLE self.old memory.old (line_outcome O.CYCLE (rest_in self.old memory.old) (kept line.now))).1 out.old }
+        requires length { length records.old ≡ 414 }
+        requires room { 80 ≤ length out.old }
+        ensures core { core_in O.CYCLE self.new records.new ≡ (done_in O.CYCLE self.old records.old (line_outcome O.CYCLE (module_in self.old records.old) (kept line.now))).0 }
+        ensures reply { (result, out.new) ≡ sent (done_in O.CYCLE self.old records.old (line_outcome O.CYCLE (module_in self.old records.old) (kept line.now))).1 out.old }
         ensures receiver { self.new.receiver ≡ self.old.receiver }
     {
-        let to = line.addressee(self.control.address);
-        match self.control.judge(line) {
-            None => Ok(0),
-            Some(Err(fault)) => {
-                self.fault = Some(fault);
-                refusal(to, out)
+        let fault = self.fault;
+        match self.control.judge(line, records) {
+            Judgement::Own(Ok(order)) => {
+                let answer = self.accept(order, records);
+                self.reply(answer, fault, out)
             }
-            Some(Ok(order)) => self.accept(to, order, memory, out),
+            Judgement::Own(Err(fault)) => {
+                self.fault = Some(fault);
+                refuse(out)
+            }
+            Judgement::Broadcast(Ok(order)) => {
+                self.accept(order, records);
+                Ok(0)
+            }
+            Judgement::Broadcast(Err(fault)) => {
+                self.fault = Some(fault);
+                Ok(0)
+            }
+            Judgement::Stranger => Ok(0),
         }
     }
 }

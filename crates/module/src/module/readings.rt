@@ -1,4 +1,4 @@
-// What a module tells of itself.
+//! What a module tells of itself.
 ghost use Rattle.std.specs.Prelude.{◌≡◌};
 
 use super::Module;
@@ -9,28 +9,28 @@ use lines::Line;
 use outputs::StepOutput;
 
 impl<O: StepOutput> Module<O> {
-    // The fault record.
+    /// The fault record.
     pub fn fault(&self) -> Option<Fault>
         ensures { result ≡ self.now.fault }
     {
         self.fault
     }
 
-    // The unfinished line.
+    /// The unfinished line.
     pub fn held(&self) -> Line
         ensures { result ≡ self.now.receiver.line }
     {
         *self.receiver.held()
     }
 
-    // The settings, the sequences and what goes on.
+    /// The settings, the sequences and what goes on.
     pub fn control(&self) -> &Control
         ensures { result.now ≡ self.now.control }
     {
         &self.control
     }
 
-    // The counter and the step output.
+    /// The counter and the step output.
     pub fn axis(&self) -> &Axis<O>
         ensures { result.now ≡ self.now.axis }
     {

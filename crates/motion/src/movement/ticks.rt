@@ -1,10 +1,10 @@
-// One tick of a movement.
+//! One tick of a movement.
 ghost use Rattle.std.specs.Prelude.{◌≡◌, ◌≤◌};
 ghost use Rattle.motion.specs.Motions.{motion, motion_left, falling, next_ramp, speed_at, tick_step, tick_rest};
 ghost use Rattle.motion.specs.Ticks.{TickBounds};
 
 use super::Movement;
-use senses::Sense;
+use steps::Direction;
 
 // A tick is 1/40,000 s.
 const TICKS_PER_SECOND: u32 = 40_000;
@@ -39,13 +39,13 @@ impl Movement {
         ensures value { result ≡ speed_at (motion self.now) ramp }
         ensures most { result ≤ 20000 }
     {
-        let rise = u64::from(self.plateau.value - self.start.value);
-        // The quotient is at most the rise, so that the cast loses nothing: `try_from` would add an error that nobody can meet.
-        u32::from(self.start.value) + (rise * u64::from(ramp) / u64::from(self.top)) as u32
+        let rise = u64::from(self.plateau - self.start);
+        // The quotient is at most the rise, so that the cast loses nothing.
+        u32::from(self.start) + (rise * u64::from(ramp) / u64::from(self.top)) as u32
     }
 
-    // One tick: the step made, if any, and the movement if it goes on.
-    pub fn tick(mut self) -> (Option<Sense>, Option<Movement>)
+    /// One tick of 1/40,000 s: the step made, if any, and the movement if it goes on.
+    pub fn tick(mut self) -> (Option<Direction>, Option<Movement>)
         ensures step { result.0 ≡ tick_step (motion self) }
         ensures rest { motion_left result.1 ≡ tick_rest (motion self) }
         ensures bounds { TickBounds (motion self) result.0 (motion_left result.1) }
@@ -61,12 +61,12 @@ impl Movement {
         }
         self.accumulated -= TICKS_PER_SECOND;
         if self.left == 1 {
-            return (Some(self.sense), None);
+            return (Some(self.direction), None);
         }
         self.left -= 1;
         if !falls && self.ramp < self.top {
             self.up += 1;
         }
-        (Some(self.sense), Some(self))
+        (Some(self.direction), Some(self))
     }
 }

@@ -1,8 +1,8 @@
-// How the place of coils moves through the cycles.
+//! How the place of coils moves through the cycles.
 ghost use Rattle.std.specs.Prelude.{◌≡◌, ◌%◌, ◌^◌, ◌<◌};
 ghost use Rattle.outputs.specs.Coils.{coils_meaning, place_of};
 ghost use Rattle.outputs.specs.Meaning.{moved, initial};
-ghost use Rattle.senses.specs.declared.Sense.TheVariants.{Forward, Back};
+ghost use Rattle.steps.specs.declared.direction.Direction.TheVariants.{Forward, Back};
 
 use super::MotorCoils;
 use crate::drive::Drive;
@@ -10,7 +10,7 @@ use crate::step_output::PLACES;
 use std::marker::PhantomData;
 
 impl<D: Drive> MotorCoils<D> {
-    // Coils at place 0 with power off.
+    /// Coils at place 0 with power off.
     pub fn new() -> MotorCoils<D>
         ensures { coils_meaning result ≡ initial }
     {

@@ -1,4 +1,4 @@
-// Coils as a step output with lines.
+//! Coils as a step output with lines.
 ghost use Rattle.std.specs.Prelude.{◌≡◌};
 ghost use Rattle.outputs.specs.Coils.{coils_meaning};
 ghost use Rattle.outputs.specs.Patterns.{pattern_of};
@@ -8,7 +8,7 @@ use super::MotorCoils;
 use crate::drive::Drive;
 use crate::line_output::LineOutput;
 use crate::step_output::StepOutput;
-use senses::Sense;
+use steps::Direction;
 
 impl<D: Drive> StepOutput for MotorCoils<D> {
     const CYCLE: u32 = D::CYCLE;
@@ -21,13 +21,13 @@ impl<D: Drive> StepOutput for MotorCoils<D> {
 
     ghost divides = { D.Drive.divides };
 
-    fn step(&mut self, sense: Sense) -> bool {
+    fn step(&mut self, direction: Direction) -> bool {
         if !self.power {
             return false;
         }
-        match sense {
-            Sense::Forward => self.forward(),
-            Sense::Back => self.back(),
+        match direction {
+            Direction::Forward => self.forward(),
+            Direction::Back => self.back(),
         }
         true
     }
@@ -53,7 +53,7 @@ impl<D: Drive> LineOutput for MotorCoils<D> {
     // The pattern at the place within the cycle, and no line without power.
     fn lines(&self) -> u8 {
         if self.power {
-            // The index is below the cycle, so that the cast loses nothing: `try_from` would add a branch that never runs.
+            // The index is below the cycle, so that the cast loses nothing.
             D::patterns()[self.index as usize]
         } else {
             0

@@ -1,43 +1,44 @@
-// Creating, erasing, writing and reading: the directory and the lent records change together.
-ghost use Rattle.std.specs.Prelude.{◌≡◌, ◌+◌, ◌<◌, ◌≤◌, true, [], ◌∷◌, ◌++◌, length, is_ok, IfOk, if◌then◌else◌, OnOk};
+//! Creating, erasing and reading: the directory and the lent records change together.
+ghost use Rattle.std.specs.Prelude.{◌≡◌, ◌+◌, ◌<◌, ◌≤◌, true, [], ◌∷◌, ◌++◌, length, Ok, IfOk, OnOk};
 ghost use Rattle.std.specs.List.{remove};
 ghost use Rattle.faults.specs.Faults.{and_then};
 ghost use Rattle.store.specs.Blocks.{reserved, sound};
 ghost use Rattle.store.specs.Directories.{sequences};
-ghost use Rattle.store.specs.Records.{lent, blanked, closed, appended, create_answer, erase_answer, erased_blocks, erased_records, located, write_answer, rewritten, read_answer};
+ghost use Rattle.store.specs.Records.{lent, blanked, closed, appended, create_answer, erased_blocks, erased_records, located, read_answer, phase_at};
 
 use super::{Block, Directory};
 use faults::Fault;
 use phases::{Phase, Position};
 
-const CAPACITY: usize = 414;
+/// How many records a phase memory has.
+pub const RECORDS: usize = 414;
 
-// The phase memory has 414 records.
-pub fn whole(memory: &[Phase]) -> Result<(), Fault>
-    ensures answer { result ≡ lent memory.now }
-    ensures whole { OnOk result (length memory.now ≡ 414) }
+/// Whether these are the 414 records of a phase memory; refused with 101 where they are more or fewer.
+pub fn check_memory(records: &[Phase]) -> Result<(), Fault>
+    ensures answer { result ≡ lent records.now }
+    ensures length { OnOk result (length records.now ≡ 414) }
 {
-    if memory.len() == CAPACITY {
+    if records.len() == RECORDS {
         Ok(())
     } else {
         Err(Fault::wrong_memory())
     }
 }
 
-fn blank_out(memory: &mut [Phase], from: usize, many: usize)
-    requires { from + many ≤ length memory.old }
-    ensures { memory.new ≡ blanked from many memory.old }
+fn blank_out(records: &mut [Phase], from: usize, many: usize)
+    requires { from + many ≤ length records.old }
+    ensures { records.new ≡ blanked from many records.old }
 {
-    memory[from..from + many].fill(Phase::BLANK);
+    records[from..from + many].fill(Phase::BLANK);
 }
 
-// Closes the gap of `many` records: those behind it up to `used` move forward, and the last ones are blanked.
-fn close_gap(memory: &mut [Phase], from: usize, many: usize, used: usize)
-    requires { (from + many ≤ used) × (used ≤ length memory.old) }
-    ensures { memory.new ≡ closed from many used memory.old }
+// Closes the gap of `many` records: those after it up to `used` move forward, and the last ones are blanked.
+fn close_gap(records: &mut [Phase], from: usize, many: usize, used: usize)
+    requires { (from + many ≤ used) × (used ≤ length records.old) }
+    ensures { records.new ≡ closed from many used records.old }
 {
-    memory[from..used].rotate_left(many);
-    blank_out(memory, used - many, many);
+    records[from..used].rotate_left(many);
+    blank_out(records, used - many, many);
 }
 
 impl Directory {
@@ -58,9 +59,10 @@ impl Directory {
         self.count -= 1;
     }
 
-    // Whether a sequence of that number and reserve can be created.
+    /// Whether the sequence can be created: its number is 1 to 99 (else 1) and its reserve 1 to 50 (else 2), there is none of that
+    /// number (else 4), and all reserves together are at most 414 (else 5).
     #[tactic(auto, using(std::proofs::lemmas::Map::Keys::le_from_is_le, crate::proofs::Asked::refused_exists, crate::proofs::Asked::refused_full, crate::proofs::Asked::admitted))]
-    pub fn admits(&self, block: Block) -> Result<(), Fault>
+    pub fn check_create(&self, block: Block) -> Result<(), Fault>
         ensures { result ≡ create_answer (sequences self.now) block.number block.reserve }
     {
         if !(1..=99).contains(&block.number) {
@@ -72,60 +74,44 @@ impl Directory {
         if self.find(block.number).is_some() {
             return Err(Fault::sequence_exists());
         }
-        if self.reserved() + usize::from(block.reserve) > CAPACITY {
+        if self.reserved() + usize::from(block.reserve) > RECORDS {
             return Err(Fault::memory_full());
         }
         Ok(())
     }
 
-    // SN: appends a sequence and blanks its records.
-    pub fn create(&mut self, memory: &mut [Phase], block: Block) -> Result<(), Fault>
-        ensures answer { result ≡ and_then (lent memory.old) (λ _. create_answer (sequences self.old) block.number block.reserve) }
-        ensures directory { sequences self.new ≡ (if is_ok result then appended (sequences self.old) block.number block.reserve else sequences self.old) }
-        ensures records { memory.new ≡ (if is_ok result then blanked (reserved (sequences self.old)) block.reserve memory.old else memory.old) }
+    /// SN, once `check_create` has accepted it: appends the sequence and blanks its records.
+    pub fn create(&mut self, records: &mut [Phase], block: Block)
+        requires length { length records.old ≡ 414 }
+        requires accepted { create_answer (sequences self.old) block.number block.reserve ≡ Ok tt }
+        ensures directory { sequences self.new ≡ appended (sequences self.old) block.number block.reserve }
+        ensures records { records.new ≡ blanked (reserved (sequences self.old)) block.reserve records.old }
     {
-        whole(memory)?;
-        self.admits(block)?;
         let used = self.reserved();
-        blank_out(memory, used, usize::from(block.reserve));
+        blank_out(records, used, usize::from(block.reserve));
         self.append(block);
-        Ok(())
     }
 
-    // Closes the gap of the sequence, or blanks the records of all.
-    fn cut(&mut self, memory: &mut [Phase], sequence: Option<u8>)
-        requires { length memory.old ≡ 414 }
+    /// SE: closes the gap of the sequence, keeps the order and blanks the records set free; with none, it erases all sequences.
+    /// Erasing an absent sequence changes nothing.
+    pub fn erase(&mut self, records: &mut [Phase], sequence: Option<u8>)
+        requires { length records.old ≡ 414 }
         ensures directory { sequences self.new ≡ erased_blocks (sequences self.old) sequence }
-        ensures records { memory.new ≡ erased_records (sequences self.old) sequence memory.old }
+        ensures records { records.new ≡ erased_records (sequences self.old) sequence records.old }
     {
         let used = self.reserved();
         let Some(number) = sequence else {
-            blank_out(memory, 0, used);
+            blank_out(records, 0, used);
             self.count = 0;
             return;
         };
         if let Some(span) = self.find(number) {
-            close_gap(memory, span.offset, span.reserve, used);
+            close_gap(records, span.offset, span.reserve, used);
             self.remove(span.index);
         }
     }
 
-    // SE: closes the gap of the sequence, keeps the order and blanks the records set free; with none, it
-    // erases all. Erasing an absent sequence is accepted.
-    pub fn erase(&mut self, memory: &mut [Phase], sequence: Option<u8>) -> Result<(), Fault>
-        ensures answer { result ≡ and_then (lent memory.old) (λ _. erase_answer sequence) }
-        ensures directory { sequences self.new ≡ (if is_ok result then erased_blocks (sequences self.old) sequence else sequences self.old) }
-        ensures records { memory.new ≡ (if is_ok result then erased_records (sequences self.old) sequence memory.old else memory.old) }
-    {
-        whole(memory)?;
-        if sequence.is_some_and(|number| number > 99) {
-            return Err(Fault::past_limit(2));
-        }
-        self.cut(memory, sequence);
-        Ok(())
-    }
-
-    // The record of a phase.
+    /// The index of a phase's record, below 414. Refused where the sequence is absent (3) or the phase is past its reserve (2).
     pub fn locate(&self, at: Position) -> Result<usize, Fault>
         ensures answer { result ≡ located (sequences self.now) at.sequence at.phase }
         ensures within { IfOk result (λ at. at < 414) }
@@ -138,23 +124,19 @@ impl Directory {
         Ok(span.offset + (phase - 1))
     }
 
-    // SP: writes one record.
-    pub fn write(&self, memory: &mut [Phase], at: Position, phase: Phase) -> Result<(), Fault>
-        ensures answer { result ≡ and_then (lent memory.old) (λ _. write_answer (located (sequences self.now) at.sequence at.phase)) }
-        ensures records { memory.new ≡ (if is_ok result then rewritten (located (sequences self.now) at.sequence at.phase) phase memory.old else memory.old) }
+    // RS: the phase, or none if it is unwritten.
+    fn read(&self, records: &[Phase], at: Position) -> Result<Option<Phase>, Fault>
+        ensures { result ≡ and_then (lent records.now) (λ _. read_answer (located (sequences self.now) at.sequence at.phase) records.now) }
     {
-        whole(memory)?;
-        let record = self.locate(at)?;
-        memory[record] = phase;
-        Ok(())
+        check_memory(records)?;
+        let index = self.locate(at)?;
+        Ok(Some(records[index]).filter(Phase::is_written))
     }
 
-    // RS: the phase, or none if it is unwritten.
-    pub fn read(&self, memory: &[Phase], at: Position) -> Result<Option<Phase>, Fault>
-        ensures { result ≡ and_then (lent memory.now) (λ _. read_answer (located (sequences self.now) at.sequence at.phase) memory.now) }
+    /// The written phase at a position, if there is one. Other than 414 records hold none.
+    pub fn phase_at(&self, records: &[Phase], at: Position) -> Option<Phase>
+        ensures { result ≡ phase_at (sequences self.now) records.now at }
     {
-        whole(memory)?;
-        let record = self.locate(at)?;
-        Ok(Some(memory[record]).filter(Phase::is_written))
+        self.read(records, at).unwrap_or(None)
     }
 }

@@ -2,8 +2,8 @@ use Rattle.std.proofs.Common.{rules, ◌≡◌, ℕ, ◌+◌, suc, true, ap, sym
 use Rattle.law.specs.Events.Event.{tick}
 use Rattle.law.specs.History.{next}
 use Rattle.module.specs.Machine.{module_device}
-use Rattle.host.specs.Hosts.{state_of}
-use Rattle.runs.specs.Runs.{run_for, busy_in}
+use Rattle.history.specs.Hosts.{state_of}
+use Rattle.runs.specs.Runs.{run_for, busy_in, missing_in}
 use Rattle.runs.proofs.notes.run.Goals as goal
 
 pub loop-preserved : goal.loop-preserved
@@ -16,4 +16,6 @@ loop-preserved g c =
       c.in_ok-tick.ensures.ticks ∙ (ap suc c.loop.invariant.0 ∙ more),
       c.tick.ensures.state ∙ (ap (λ s. next (module_device y) s tick) c.loop.invariant.1 ∙ ap (λ k. run_for y k start) more),
       λ k e. subst (λ m. busy_in y (run_for y m start) ≡ true) (omega arith) busy,
+      λ k e. let P : ℕ → Type 0 = λ m. c.tick.new.self.missing ≡ missing_in y (run_for y m start) in
+          subst P (omega arith) (c.in_ok-tick.ensures.missing ∙ ap (missing_in y) c.loop.invariant.1),
     )

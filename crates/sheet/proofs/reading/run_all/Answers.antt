@@ -1,7 +1,7 @@
 use Rattle.std.proofs.Common.{◌≡◌, List, [], drop, subst, sym, refl, arith}
 use Rattle.std.proofs.lemmas.List.{append-nil, drop_all}
 use Rattle.store.specs.declared.directory.Block.{Block}
-use Rattle.host.specs.Hosts.{state_of}
+use Rattle.history.specs.Hosts.{state_of}
 use Rattle.runs.specs.declared.report.Report.{Report}
 use Rattle.runs.specs.Runs.{RunInTurn}
 use Rattle.sheet.specs.Telling.{numbers_in}

@@ -1,6 +1,6 @@
 -- What is still to be run completes what has been.
 use Rattle.std.proofs.Common.{List, ◌++◌, drop, vec_items}
-use Rattle.host.specs.Hosts.{state_of}
+use Rattle.history.specs.Hosts.{state_of}
 use Rattle.runs.specs.declared.report.Report.{Report}
 use Rattle.runs.specs.Runs.{RunInTurn}
 use Rattle.sheet.specs.Telling.{numbers_in}

@@ -7,4 +7,4 @@ pub returns-then-made-clause-moved : goal.returns-then-made-clause-moved
 returns-then-made-clause-moved g c = search rules
 
 pub returns-then-made-clause-alike : goal.returns-then-made-clause-alike
-returns-then-made-clause-alike g c = ap offset (returns-then-made-clause-moved g c) ∙ step_alike c.args.sense c.args.self.now.state
+returns-then-made-clause-alike g c = ap offset (returns-then-made-clause-moved g c) ∙ step_alike c.args.direction c.args.self.now.state

@@ -1,13 +1,11 @@
-use Rattle.std.proofs.Common.{ap, ◌∙◌, w32}
-use Rattle.std.proofs.lemmas.Int.{to_z-of_z}
-use Rattle.control.specs.States.{state}
-use Rattle.control.specs.Obeyed.{acted, stored, obeyed}
+use Rattle.std.proofs.Common.{subst, arith}
+use Rattle.orders.specs.Judged.{Shown}
+use Rattle.store.proofs.Located.{located_within}
+use Rattle.control.specs.States.{state, store_of, situation}
 use Rattle.control.proofs.control.Control.obey.Goals as goal
 
-pub returns-clause-state : goal.returns-clause-state
-unfolding obeyed
-returns-clause-state c =
+pub write-requires : goal.write-requires
+write-requires c =
     let s = state c.args.self.now in
-    let o = c.args.order in
-    c.store.ensures.state
-    ∙ ap (λ t. stored t c.args.memory.now o) (c.act.ensures ∙ ap (λ z. acted s z o) (to_z-of_z w32 c.args.counter c.ranges.counter))
+    let q = subst (Shown (situation s) (store_of s c.args.records.now)) c.in-Write.is c.requires.shown in
+    omega (arith, located_within s.blocks q.0.sequence q.0.phase c.in-Write.index c.args.self.now.directory.room q.1, c.requires.length)

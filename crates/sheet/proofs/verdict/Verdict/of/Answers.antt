@@ -17,4 +17,4 @@ stored_same (Some p) (Some q) s e t =
     ((λ _. cc), (λ other. absurd (other same)))
 
 pub returns-in-Some : goal.returns-in-Some
-returns-in-Some c = stored_same c.args.meant c.args.found c.in-Some.stored (cc) (sym c.eq.ensures ∙ c.if-eq.true)
+returns-in-Some c = stored_same c.args.intended c.args.found c.in-Some.stored (cc) (sym c.eq.ensures ∙ c.if-eq.true)

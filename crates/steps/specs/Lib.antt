@@ -1,0 +1,3 @@
+pub mod Directions
+pub mod Limits
+pub mod Wrap
