@@ -8,7 +8,7 @@ use Rattle.law.proofs.Histories.{histories_lawful}
 use Rattle.law.proofs.Machines.{lawful as device-lawful}
 use Rattle.module.specs.Machine.{machine, module_device}
 use Rattle.history.specs.Histories.{begun}
-use Rattle.history.proofs.Device.{Sound, lawful, zero_fits}
+use Rattle.module.proofs.Device.{Sound, lawful, zero_fits}
 
 pub module_law : (cycle address : ℕ) (m : Meaning) (records : List Phase) (h : List Event) → m.place < 16777216 → Law (module_device cycle) (begun cycle address m records) h
 module_law cycle address m records h small =

@@ -1,4 +1,5 @@
 pub mod States
 pub mod Lines
+pub mod Counter
 pub mod Machine
 pub mod Views

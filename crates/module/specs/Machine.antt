@@ -1,21 +1,14 @@
 -- The module as a machine of the law of histories.
-use Rattle.std.specs.Prelude.{ℕ, [], ℤ, Some, None, Ok, Option}
+use Rattle.std.specs.Prelude.{ℕ, [], Some, None, Option}
 use Rattle.faults.specs.declared.Fault.{Fault}
 use Rattle.lines.specs.Lines.{Kept, kept_of, taken}
 use Rattle.questions.specs.Questions.{fault_text}
-use Rattle.orders.specs.declared.order.Judgement.{Judgement}
-use Rattle.orders.specs.declared.order.Judgement.TheVariants.{Own, Broadcast}
 use Rattle.control.specs.States.{is_busy}
 use Rattle.law.specs.Device.{Device}
 use Rattle.law.specs.Machine.{Machine, device}
-use Rattle.module.specs.States.{ModuleState, order_done, effects_of, step_of, ticked_state, levelled_state, restarted_state}
+use Rattle.module.specs.States.{ModuleState, effects_of, step_of, ticked_state, levelled_state, restarted_state}
 use Rattle.module.specs.Lines.{judged_line, line_outcome}
-
--- what a finished line sets the counter to: an accepted DI, DP or MR does
-abbrev pub counter_set : ModuleState → Judgement → Option ℤ
-counter_set r (Own (Ok o)) = (order_done r o).change.counter
-counter_set r (Broadcast (Ok o)) = (order_done r o).change.counter
-counter_set r _ = None
+use Rattle.module.specs.Counter.{counter_set, entered_next, zeroing}
 
 -- the fault that ends a run is kept
 abbrev pub fault_kept : Option Fault → Option (Option Fault)
@@ -38,8 +31,8 @@ machine cycle = record {
   restart = restarted_state;
   counter = λ r. r.axis.counter;
   place = λ r. r.axis.place;
-  sets = λ r k. counter_set r (judged_line r k);
-  zeroes = λ r. (effects_of r).zero_counter;
+  sets = λ r k. counter_set (judged_line r k);
+  zeroes = λ r. zeroing (entered_next r);
 }
 
 -- the device of an output with this cycle

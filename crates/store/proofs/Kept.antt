@@ -53,7 +53,7 @@ se_fits n s f (Some p) e w =
       subst (λ x. length x ≡ 414) m (length_closed p.offset p.reserve (reserved s.blocks) s.records w.1 (omega (arith, f.1, f.2)) ∙ f.2),
     )
 
-fit_step : (c : Command) (s : Store) (n : ℕ) → Fit s → Spares n c → Fit (step c s)
+pub fit_step : (c : Command) (s : Store) (n : ℕ) → Fit s → Spares n c → Fit (step c s)
 fit_step (SN o many) s n f a = fit_sn o many s f
 fit_step (SE None) s n f a = absurd a
 fit_step (SE (Some o)) s n f a = se_fits o s f (placed 0 0 s.blocks o) refl (within_placed s.blocks o)

@@ -110,11 +110,16 @@ record_fit m c p w h =
 second : (a at : Position) (q p : Phase) → ◌≡◌ {A = Result (Position × Phase) Fault} (Ok (a, q)) (Ok (at, p)) → q ≡ p
 second a at q p h = let same : ◌≡◌ {A = Position × Phase} (a, q) (at, p) = cc in ap (λ (t : Position × Phase). t.1) same
 
-pub takes_written : TakesWritten
+-- what the words of SP say, once its values are within their limits
+pub values_written : (s : Ahead) (r : RawPhase) (at : Position) (p : Phase) → sp_form s ≡ Ok r → sp_values r ≡ Ok (at, p) → Written p ≡ true
 unfolding sp_values
+values_written s r at p f h =
+    let a = then_ok (position_values r.at) _ (at, p) h in
+    let q = then_ok (record_values r.action r.options) _ (at, p) a.1.1 in
+    let same : q.0 ≡ p = second a.0 at q.0 p q.1.1 in
+    subst (λ (x : Phase). Written x ≡ true) same (record_fit r.action r.options q.0 (form_fit s r f) q.1.0)
+
+pub takes_written : TakesWritten
 takes_written t at p h =
     let r = then_ok (sp_form (words t, 2)) _ (at, p) h in
-    let a = then_ok (position_values r.0.at) _ (at, p) r.1.1 in
-    let q = then_ok (record_values r.0.action r.0.options) _ (at, p) a.1.1 in
-    let same : q.0 ≡ p = second a.0 at q.0 p q.1.1 in
-    subst (λ (s : Phase). Written s ≡ true) same (record_fit r.0.action r.0.options q.0 (form_fit (words t, 2) r.0 r.1.0) q.1.0)
+    values_written (words t, 2) r.0 at p r.1.0 r.1.1

@@ -40,7 +40,9 @@ use Rattle.law.specs.Machine.Outcome.{ignored}
 use Rattle.law.proofs.Machines.{MachineLawful, left}
 use Rattle.module.specs.States.{ModuleState, powered, counted, changed, stepped, step_made, zeroed, step_of, order_done, obeyed_state, effects_of, ticked_state}
 use Rattle.module.specs.Lines.{outcome_of, judged_line, line_outcome}
-use Rattle.module.specs.Machine.{machine, counter_set}
+use Rattle.module.specs.Counter.{set_by, counter_set}
+use Rattle.module.specs.Machine.{machine}
+use Rattle.module.proofs.Zeroes.{tick_zeroes}
 
 -- what is shown of an order that the module takes
 abbrev ShownIn : ModuleState → Order → Type 0
@@ -88,9 +90,16 @@ changed_counter c a = powered_counter c.power (counted c.counter a) ∙ counted_
 changed_place : (c : Change) (a : AxisState) → (changed c a).place ≡ a.place
 changed_place c a = powered_place c.power (counted c.counter a) ∙ counted_place c.counter a
 
-obeyed_counter : (r : ModuleState) (o : Order) → (obeyed_state r o).axis.counter ≡ unwrap_or (order_done r o).change.counter r.axis.counter
+restart_sets : (c : Option ℕ) → (restart_change c).counter ≡ Some (pos 0)
+restart_sets None = refl
+restart_sets (Some n) = refl
+
+order_sets : (r : ModuleState) (o : Order) → (order_done r o).change.counter ≡ set_by o
+order_sets r o = search (rules, restart_sets)
+
+obeyed_counter : (r : ModuleState) (o : Order) → (obeyed_state r o).axis.counter ≡ unwrap_or (set_by o) r.axis.counter
 unfolding obeyed_state
-obeyed_counter r o = changed_counter (order_done r o).change r.axis
+obeyed_counter r o = changed_counter (order_done r o).change r.axis ∙ ap (λ z. unwrap_or z r.axis.counter) (order_sets r o)
 
 obeyed_place : (r : ModuleState) (o : Order) → (obeyed_state r o).axis.place ≡ r.axis.place
 unfolding obeyed_state
@@ -119,12 +128,8 @@ within_fits z w =
     let m : z ≤ℤ pos 8388606 = le_true z (pos 8388606) h.1 in
     wrapped_fits z (omega (arith, ints)) (omega (arith, ints))
 
-restart_fits : (c : Option ℕ) (v : ℤ) → (restart_change c).counter ≡ Some v → wrapped24 v ≡ v
-restart_fits None v e = let k : pos 0 ≡ v = cc in subst (λ z. wrapped24 z ≡ z) k zero_fits
-restart_fits (Some n) v e = let k : pos 0 ≡ v = cc in subst (λ z. wrapped24 z ≡ z) k zero_fits
-
-change_fits : (r : ModuleState) (o : Order) (v : ℤ) → ShownIn r o → (order_done r o).change.counter ≡ Some v → wrapped24 v ≡ v
-change_fits r o v f e = search (rules, zero_fits, within_fits, restart_fits)
+set_fits : (r : ModuleState) (o : Order) (v : ℤ) → ShownIn r o → set_by o ≡ Some v → wrapped24 v ≡ v
+set_fits r o v f e = search (rules, zero_fits, within_fits)
 
 -- a finished line
 valued : (z : Option ℤ) (c : ℤ) → wrapped24 c ≡ c → ((v : ℤ) → z ≡ Some v → wrapped24 v ≡ v) → wrapped24 (unwrap_or z c) ≡ unwrap_or z c
@@ -136,7 +141,7 @@ module _ (cycle : ℕ) (r : ModuleState) (k : Kept) where
   sound_left s =
       line_left cycle r k Sound s
       (λ o a. record {
-        counter_fits = subst (λ z. wrapped24 z ≡ z) (sym (obeyed_counter r o)) (valued (order_done r o).change.counter r.axis.counter s.counter_fits (λ v e. change_fits r o v a e));
+        counter_fits = subst (λ z. wrapped24 z ≡ z) (sym (obeyed_counter r o)) (valued (set_by o) r.axis.counter s.counter_fits (λ v e. set_fits r o v a e));
         place_small = subst (λ p. p < 16777216) (sym (obeyed_place r o)) s.place_small;
       })
 
@@ -146,26 +151,26 @@ module _ (cycle : ℕ) (r : ModuleState) (k : Kept) where
   place_left : (left r (line_outcome cycle r k)).axis.place ≡ r.axis.place
   place_left = line_left cycle r k (λ t. t.axis.place ≡ r.axis.place) refl (λ o a. obeyed_place r o)
 
-  set_by : (j : Judgement) → (left r (outcome_of cycle r j)).axis.counter ≡ unwrap_or (counter_set r j) r.axis.counter
-  set_by (Own (Ok o)) = obeyed_counter r o
-  set_by (Own (Err f)) = refl
-  set_by (Broadcast (Ok o)) = obeyed_counter r o
-  set_by (Broadcast (Err f)) = refl
-  set_by Stranger = refl
+  line_sets : (j : Judgement) → (left r (outcome_of cycle r j)).axis.counter ≡ unwrap_or (counter_set j) r.axis.counter
+  line_sets (Own (Ok o)) = obeyed_counter r o
+  line_sets (Own (Err f)) = refl
+  line_sets (Broadcast (Ok o)) = obeyed_counter r o
+  line_sets (Broadcast (Err f)) = refl
+  line_sets Stranger = refl
 
-  counter_left : (left r (line_outcome cycle r k)).axis.counter ≡ unwrap_or (counter_set r (judged_line r k)) r.axis.counter
+  counter_left : (left r (line_outcome cycle r k)).axis.counter ≡ unwrap_or (counter_set (judged_line r k)) r.axis.counter
   unfolding line_outcome
-  counter_left = set_by (judged_line r k)
+  counter_left = line_sets (judged_line r k)
 
-  fits_by : (j : Judgement) → Admitted (situation r.control) (store_of r.control r.records) j → (v : ℤ) → counter_set r j ≡ Some v → wrapped24 v ≡ v
-  fits_by (Own (Ok o)) h v e = change_fits r o v h e
+  fits_by : (j : Judgement) → Admitted (situation r.control) (store_of r.control r.records) j → (v : ℤ) → counter_set j ≡ Some v → wrapped24 v ≡ v
+  fits_by (Own (Ok o)) h v e = set_fits r o v h e
   fits_by (Own (Err f)) h v e = absurd (none-some v e)
-  fits_by (Broadcast (Ok o)) h v e = change_fits r o v h e
+  fits_by (Broadcast (Ok o)) h v e = set_fits r o v h e
   fits_by (Broadcast (Err f)) h v e = absurd (none-some v e)
   fits_by Stranger h v e = absurd (none-some v e)
 
-  set_fits : (v : ℤ) → counter_set r (judged_line r k) ≡ Some v → wrapped24 v ≡ v
-  set_fits v e = fits_by (judged_line r k) (admitted (situation r.control) (store_of r.control r.records) k) v e
+  line_fits : (v : ℤ) → counter_set (judged_line r k) ≡ Some v → wrapped24 v ≡ v
+  line_fits v e = fits_by (judged_line r k) (admitted (situation r.control) (store_of r.control r.records) k) v e
 
 -- a tick
 stepped_counter : (s : Option Direction) (a : AxisState) → wrapped24 a.counter ≡ a.counter → (stepped s a).counter ≡ wrapped24 (a.counter +ℤ step_made s a)
@@ -284,12 +289,12 @@ lawful cycle = record {
   address_restart = λ r. restarted_address r.control r.control.chosen;
   text_alike = λ r f g. text_alike r.control.address f g;
   set_value = λ r k v s e. counter_left cycle r k ∙ ap (λ z. unwrap_or z r.axis.counter) e;
-  set_fits = λ r k v s e. set_fits cycle r k v e;
+  set_fits = λ r k v s e. line_fits cycle r k v e;
   unset_counter = λ r k s e. counter_left cycle r k ∙ ap (λ z. unwrap_or z r.axis.counter) e;
   unset_place = λ r k s e. place_left cycle r k;
-  zeroed = λ r s h. zeroed_counter r h;
-  step_counter = λ r s h. tick_counter r s h;
-  step_place = λ r s h. tick_place r s h;
+  zeroed = λ r s h. zeroed_counter r (tick_zeroes r ∙ h);
+  step_counter = λ r s h. tick_counter r s (tick_zeroes r ∙ h);
+  step_place = λ r s h. tick_place r s (tick_zeroes r ∙ h);
   levels_counter = λ r v. refl;
   levels_place = λ r v. refl;
   restart_counter = λ r. restart_zero r.control.chosen r.axis;
