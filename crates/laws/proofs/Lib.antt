@@ -1,5 +1,14 @@
+mod Accepted
+mod WhileBusy
 mod Called
+mod Answered
+mod Memory
 mod Stored
 mod Done
 mod Ended
 mod Powered
+mod Speeds
+mod Entering
+mod DirectMovements
+mod Tells
+mod Again

@@ -1,44 +1,31 @@
--- Worked examples, all in one table.
-use Rattle.std.specs.Prelude.{◌≡◌, ℕ, true, false, List, [], ◌∷◌, ◌++◌, map, ℤ, pos, negsuc, Some, None, Ok, Err, codes}
-use Rattle.faults.specs.Faults.{wrong_form, past_limit, start_past_plateau, memory_full}
-use Rattle.steps.specs.declared.direction.Direction.TheVariants.{Forward}
-use Rattle.lines.specs.Characters.{Character}
-use Rattle.lines.specs.Lines.{kept_of}
-use Rattle.store.specs.declared.directory.Block.{Block}
-use Rattle.store.specs.Blocks.{reserved, absent}
-use Rattle.questions.specs.Questions.{fault_text}
-use Rattle.axis.specs.Axes.{AxisState, axis_stepped}
-use Rattle.orders.specs.declared.order.Judgement.{Judgement}
-use Rattle.orders.specs.declared.order.Judgement.TheVariants.{Own}
-use Rattle.orders.specs.declared.order.Order.TheVariants.{Distance, Create}
-use Rattle.orders.specs.Judged.{judged}
-use Rattle.control.specs.States.{initial, situation}
-
--- the characters of a text, none of them damaged
-abbrev pub undamaged : List ℕ → List Character
-undamaged t = map (λ c. (c, false)) t
-
--- what a line comes to on a new module with these sequences
-abbrev pub line_on : List Block → List ℕ → Judgement
-line_on bs t = judged (situation initial) (record { blocks = bs; records = [] }) (kept_of (undamaged t))
-
--- an axis with power on and the counter at z
-abbrev pub powered_at : ℤ → AxisState
-powered_at z = record { counter = z; place = 0; power = true }
+-- Worked examples, all in one table: each is a transcript of a new module 00.
+use Rattle.std.specs.Prelude.{[], ◌∷◌}
+use Rattle.laws.specs.Transcripts.{IsTranscript, accepted, refused, answered, busy, at_rest, no_step, forward}
 
 pub record WorkedExamples : Type 0 where
   -- the longest distance, one step more, and a distance with a sign
-  pub distance_taken : line_on [] (codes "00DR 999998") ≡ Own (Ok (Distance 999998))
-  pub distance_past : line_on [] (codes "00DR 999999") ≡ Own (Err (past_limit 2))
-  pub distance_signed : line_on [] (codes "00DR -10") ≡ Own (Err (wrong_form 2))
-  -- what RX tells of that refusal, and of an empty record
-  pub fault_told : fault_text 0 (Some (wrong_form 2)) ≡ codes "00EE 0" ++ 13 ∷ 17 ∷ []
-  pub no_fault_told : fault_text 0 None ≡ codes "00EE N" ++ 13 ∷ 17 ∷ []
-  -- a speed below the least, and a start speed above the plateau speed
-  pub speed_low : line_on [] (codes "00VN 19") ≡ Own (Err (past_limit 2))
-  pub speed_past : line_on [] (codes "00VN 2001") ≡ Own (Err start_past_plateau)
-  -- of 414 records 400 are reserved: the last 14 can be, and not one more
-  pub created : (bs : List Block) → reserved bs ≡ 400 → absent 9 bs ≡ true → line_on bs (codes "00SN 9 14") ≡ Own (Ok (Create (record { number = 9; reserve = 14 })))
-  pub full : (bs : List Block) → reserved bs ≡ 400 → absent 9 bs ≡ true → line_on bs (codes "00SN 9 15") ≡ Own (Err memory_full)
+  pub distance_taken : IsTranscript (accepted "00DR 999998" ∷ answered "00RX" "00EE N" ∷ [])
+  pub distance_past : IsTranscript (refused "00DR 999999" ∷ answered "00RX" "00EE 1" ∷ [])
+  pub distance_signed : IsTranscript (refused "00DR -10" ∷ answered "00RX" "00EE 0" ∷ answered "00RX" "00EE N" ∷ [])
+  -- the least speed, one below it, and a start speed above the plateau speed of 2000
+  pub speed_least : IsTranscript (accepted "00VN 20" ∷ [])
+  pub speed_low : IsTranscript (refused "00VN 19" ∷ answered "00RX" "00EE 1" ∷ [])
+  pub speed_past : IsTranscript (refused "00VN 2001" ∷ answered "00RX" "00EE 9" ∷ [])
+  -- eight sequences reserve 400 of the 414 records: 15 more do not go in, and 14 do
+  pub reserved : IsTranscript (
+      accepted "00SN 1 50" ∷ accepted "00SN 2 50" ∷ accepted "00SN 3 50" ∷ accepted "00SN 4 50"
+      ∷ accepted "00SN 5 50" ∷ accepted "00SN 6 50" ∷ accepted "00SN 7 50" ∷ accepted "00SN 8 50"
+      ∷ refused "00SN 9 15" ∷ answered "00RX" "00EE 5" ∷ accepted "00SN 9 14" ∷ [])
+  -- a phase reads back
+  pub phase_told : IsTranscript (
+      accepted "00SN 2 5" ∷ accepted "00SP 2 3 S+ NP C150 NS 5"
+      ∷ answered "00RS 2 3" "00ES 02 03 S+ NP C+0000150 NL XX NE XXXXXXXX NS 05 NO XX" ∷ [])
+  -- at 20,000 steps per second every other tick steps
+  pub two_steps : IsTranscript (
+      accepted "00DR 2" ∷ accepted "00VX 20000" ∷ accepted "00VN 20000" ∷ accepted "00GO"
+      ∷ no_step 1 busy ∷ forward busy ∷ no_step 1 busy ∷ forward at_rest ∷ [])
   -- from 8,388,606 three steps forward lead to -8,388,607
-  pub counter_wraps : (axis_stepped Forward (axis_stepped Forward (axis_stepped Forward (powered_at (pos 8388606))))).counter ≡ negsuc 8388606
+  pub counter_wraps : IsTranscript (
+      accepted "00VX 20000" ∷ accepted "00VN 20000" ∷ accepted "00DP 8388606" ∷ accepted "00DR 3" ∷ accepted "00GO"
+      ∷ no_step 1 busy ∷ forward busy ∷ no_step 1 busy ∷ forward busy ∷ no_step 1 busy ∷ forward at_rest
+      ∷ answered "00RP" "00EP -8388607 00 FF" ∷ [])
