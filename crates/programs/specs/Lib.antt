@@ -3,3 +3,4 @@ pub mod Ends
 pub mod Naming
 pub mod Outputs
 pub mod Requests
+pub mod SheetWords

@@ -1,6 +1,7 @@
 //! What the arguments of `proofread` ask for.
-ghost use Rattle.std.specs.Prelude.{IfOk};
+ghost use Rattle.std.specs.Prelude.{◌≡◌, IfOk};
 ghost use Rattle.programs.specs.Requests.{AddressFits};
+ghost use Rattle.programs.specs.SheetWords.{answered, asked_by, texts};
 
 use crate::address::module_address;
 use crate::naming::is_option;
@@ -19,7 +20,8 @@ pub struct SheetRequest<'a> {
 /// replaces the one before. The module has the address 00 and the output full where none is named. No argument asks for the usage, and
 /// so does --help, whatever follows it.
 pub fn sheet_request(words: &[String]) -> Result<Request<SheetRequest<'_>>, WrongUse<'_>>
-    ensures { IfOk result AddressFits }
+    ensures address { IfOk result AddressFits }
+    ensures asked { answered result ≡ asked_by (texts words.now) }
 {
     if words.is_empty() {
         return Ok(Request::Usage);

@@ -1,13 +1,15 @@
 -- The run of a sequence as calls of a module, and what is told of its end.
-use Rattle.std.specs.Prelude.{◌≡◌, ℕ, zero, suc, ◌≤◌, Bool, true, false, List, [], ◌∷◌, ◌++◌, codes, Some, None, Option, cond, ◌&&◌, ◌==◌, is_none}
+use Rattle.std.specs.Prelude.{◌≡◌, ℕ, suc, ◌≤◌, Bool, true, false, List, [], ◌∷◌, ◌++◌, codes, vec_items, Some, None, Option, cond, ◌&&◌, ◌==◌, is_none}
 use Rattle.faults.specs.declared.Fault.{Fault}
-use Rattle.law.specs.Events.Event.{tick}
-use Rattle.law.specs.History.{State, next}
+use Rattle.law.specs.History.{State}
 use Rattle.replies.specs.Replies.{digits_of}
 use Rattle.phases.specs.declared.phase.Position.{Position}
 use Rattle.control.specs.States.{is_busy, upcoming_in, open_in}
 use Rattle.module.specs.Machine.{module_device}
 use Rattle.history.specs.Hosts.{after_own, phase_in}
+use Rattle.runs.specs.Ticks.{run_for}
+use Rattle.runs.specs.Rows.{rows_of, listed, left_out_of}
+use Rattle.runs.specs.Endings.{is_started, EndsByTheRules}
 use Rattle.runs.specs.declared.report.Report.{Report}
 use Rattle.runs.specs.declared.report.Ending.{Ending}
 use Rattle.runs.specs.declared.report.Ending.TheVariants.{Stop, NoPhase, Fault as Faulty, Endless}
@@ -22,11 +24,6 @@ prepared cycle s = after_own cycle (codes "GL FF") (after_own cycle (codes "DI")
 
 abbrev pub called : (cycle : ℕ) → ℕ → State (module_device cycle) → State (module_device cycle)
 called cycle sequence s = after_own cycle (start_line sequence) (prepared cycle s)
-
--- after so many ticks more
-abbrev pub run_for : (cycle : ℕ) → ℕ → State (module_device cycle) → State (module_device cycle)
-run_for cycle zero s = s
-run_for cycle (suc ticks) s = next (module_device cycle) (run_for cycle ticks s) tick
 
 -- a run that has not ended, and the fault that ended one
 abbrev pub is_endless : Ending → Bool
@@ -60,13 +57,18 @@ pub record EndsAs (cycle : ℕ) (s : State (module_device cycle)) (r : Report) :
   pub counter : r.counter ≡ s.core.rest.axis.counter
 
 -- what is told of a run that begins in this state is so: its end, that the module was busy before the last tick, whether that tick found no
--- phase where the run was to go on, and that a run which is told as endless went on for 24,000,000 ticks, the most that are waited for
+-- phase where the run was to go on, that a run which is told as endless went on for 24,000,000 ticks, the most that are waited for,
+-- its rows, whether the sequence was started, and how its run ended then
 pub record WasRun (cycle : ℕ) (begun : State (module_device cycle)) (r : Report) : Type 0 where
   pub ended : EndsAs cycle (run_for cycle r.ticks begun) r
   pub last : (k : ℕ) → r.ticks ≡ suc k → busy_in cycle (run_for cycle k begun) ≡ true
   pub place : (k : ℕ) → r.ticks ≡ suc k → is_endless r.ending ≡ false → fault_in r.ending ≡ None → r.ending ≡ ended_by (missing_in cycle (run_for cycle k begun))
   pub cut : is_endless r.ending ≡ true → r.ticks ≡ 24000000
   pub most : r.ticks ≤ 24000000
+  pub rows : vec_items r.rows ≡ listed (rows_of cycle r.ticks begun)
+  pub left_out : r.left_out ≡ left_out_of (rows_of cycle r.ticks begun)
+  pub started : r.started ≡ is_started cycle begun
+  pub rules : r.started ≡ true → EndsByTheRules cycle begun r
 
 -- each of the sequences run once, one after the other
 abbrev pub RunInTurn : (cycle : ℕ) → State (module_device cycle) → List ℕ → List Report → Type 0

@@ -1,8 +1,12 @@
 //! The run of a sequence, watched tick by tick.
-ghost use Rattle.std.specs.Prelude.{◌≡◌, suc, true, false, ◌≤◌, ◌<◌, None, IfOk, OnOk};
+ghost use Rattle.std.specs.Prelude.{◌≡◌, ◌+◌, ◌<◌, ◌^◌, ◌+ℤ◌, suc, true, false, ◌≤◌, None, IfOk, OnOk, FitsSigned};
+ghost use Rattle.std.specs.Int.{w32};
 ghost use Rattle.law.specs.Events.Event.{tick as ticking};
 ghost use Rattle.history.specs.Hosts.{state_of, next_of};
-ghost use Rattle.runs.specs.Runs.{start_line, called, run_for, missing_in, ended_by, is_endless, fault_in, EndsAs, WasRun};
+ghost use Rattle.runs.specs.Ticks.{run_for};
+ghost use Rattle.runs.specs.Endings.{is_started};
+ghost use Rattle.runs.specs.Notes.{noted, nothing, completed, entering, with_tick, ticked, times_of, ticks_of, steps_of, Within};
+ghost use Rattle.runs.specs.Runs.{start_line, called, missing_in, ended_by, is_endless, fault_in, EndsAs, WasRun};
 
 use crate::report::{Ending, Report};
 use crate::row::Row;
@@ -19,78 +23,109 @@ pub const MOST_TICKS: u32 = 24_000_000;
 // So many phases are told; those after them are counted.
 const MOST_ROWS: usize = 1_000;
 
-// What is noted of a run while it goes on: the phases so far, the one that goes on, and the place without a phase that the last tick
-// entered, if no sub-sequence was open to return from there.
+// What is noted of a run while it goes on: the rows that are complete, how many phases are left out, the row of the phase that was entered
+// last, whether that phase goes on, and the place without a phase that the last tick entered, if no sub-sequence was open to return from there.
 #[derive(Drop)]
 struct Notes {
     rows: Vec<Row>,
     left_out: u32,
     ticks: u32,
-    current: Option<Row>,
+    last: Option<Row>,
+    going: bool,
     missing: Option<Position>,
 }
 
 impl Notes {
     fn new(heap: Global) -> Notes
-        ensures { result.ticks ≡ 0 }
+        ensures ticks { result.ticks ≡ 0 }
+        ensures noted { noted result ≡ nothing }
+        ensures within { Within (noted result) 0 }
     {
         Notes {
             rows: Vec::new(heap),
             left_out: 0,
             ticks: 0,
-            current: None,
+            last: None,
+            going: false,
             missing: None,
         }
     }
 
-    // The phase that went on is over.
-    fn close(&mut self) -> Result<(), AllocError>
+    // The last row is complete: it is listed, or its phase is left out.
+    fn complete(&mut self) -> Result<(), AllocError>
+        requires { self.old.left_out + times_of self.old.last < 2 ^ 32 }
         ensures ticks { self.new.ticks ≡ self.old.ticks }
         ensures missing { self.new.missing ≡ self.old.missing }
+        ensures noted { OnOk result (noted self.new ≡ completed (noted self.old) self.old.last) }
     {
-        let Some(row) = self.current.take() else {
+        let Some(row) = self.last.take() else {
             return Ok(());
         };
-        let full = self.rows.len() >= MOST_ROWS;
-        match self.rows.last_mut() {
-            Some(last) if self.left_out == 0 && last.at == row.at => last.repeat(row),
-            _ if full => self.left_out = self.left_out.saturating_add(1),
-            _ => self.rows.push(row)?,
+        if self.rows.len() < MOST_ROWS {
+            self.rows.push(row)?;
+        } else {
+            self.left_out += row.times;
         }
         Ok(())
     }
 
     // This tick entered that place, which has that phase or none; the outputs were these before it.
-    fn enter(&mut self, at: Position, phase: Option<Phase>, before: u8) -> Result<(), AllocError>
+    fn enter(&mut self, at: Position, phase: Option<Phase>, outputs: u8) -> Result<(), AllocError>
+        requires { self.old.left_out + times_of self.old.last + 1 < 2 ^ 32 }
         ensures ticks { OnOk result (self.new.ticks ≡ self.old.ticks) }
         ensures missing { OnOk result (self.new.missing ≡ self.old.missing) }
+        ensures noted { OnOk result (noted self.new ≡ entering (noted self.old) self.old.ticks at phase outputs) }
     {
-        self.close()?;
-        if let Some(phase) = phase {
-            let outputs = phase.outputs.unwrap_or(before);
-            self.current = Some(Row::new(at, self.ticks, outputs));
+        self.going = phase.is_some();
+        let Some(phase) = phase else {
+            return Ok(());
+        };
+        match &mut self.last {
+            Some(row) if row.at == at => row.times += 1,
+            _ => {
+                self.complete()?;
+                let outputs = phase.outputs.unwrap_or(outputs);
+                self.last = Some(Row::new(at, self.ticks, outputs));
+            }
         }
         Ok(())
     }
 
+    // This tick belongs to the phase that goes on, if one does: the step that it made, and the counter then.
+    fn count(&mut self, step: i8, counter: i32)
+        requires ticks { ticks_of self.old.last + 1 < 2 ^ 32 }
+        requires steps { FitsSigned w32 (steps_of self.old.last +ℤ step) }
+        ensures ticks { self.new.ticks ≡ self.old.ticks }
+        ensures missing { self.new.missing ≡ self.old.missing }
+        ensures noted { noted self.new ≡ with_tick (noted self.old) step counter }
+    {
+        if !self.going {
+            return;
+        }
+        if let Some(row) = &mut self.last {
+            row.count(step, counter);
+        }
+    }
+
     // One tick.
     fn tick<O: StepOutput>(&mut self, host: &mut Host<O>) -> Result<(), AllocError>
-        requires { self.old.ticks < 24000000 }
+        requires ticks { self.old.ticks < 24000000 }
+        requires within { Within (noted self.old) self.old.ticks }
         ensures ticks { OnOk result (self.new.ticks ≡ suc self.old.ticks) }
         ensures missing { OnOk result (self.new.missing ≡ missing_in O.CYCLE (state_of O.CYCLE host.old)) }
         ensures state { state_of O.CYCLE host.new ≡ next_of O.CYCLE host.old ticking }
+        ensures noted { OnOk result (noted self.new ≡ ticked O.CYCLE (state_of O.CYCLE host.old) (suc self.old.ticks) (noted self.old)) }
     {
         let upcoming = host.module().control().upcoming();
-        let before = host.module().control().outputs;
+        let outputs = host.module().control().outputs;
         self.missing = missing_in(host);
+        let phase = upcoming.and_then(|at| host.phase_at(at));
         let (step, _) = host.tick();
         self.ticks += 1;
         if let Some(at) = upcoming {
-            self.enter(at, host.phase_at(at), before)?;
+            self.enter(at, phase, outputs)?;
         }
-        if let Some(row) = &mut self.current {
-            row.count(step, host.module().axis().counter());
-        }
+        self.count(step, host.module().axis().counter());
         Ok(())
     }
 
@@ -109,9 +144,12 @@ impl Notes {
     }
 
     // What is told of the run, at its end.
-    fn report<O: StepOutput>(self, host: &Host<O>, sequence: u8) -> Report
+    fn report<O: StepOutput>(self, host: &Host<O>, sequence: u8, started: bool) -> Report
         ensures sequence { result.sequence ≡ sequence }
+        ensures started { result.started ≡ started }
         ensures ticks { result.ticks ≡ self.ticks }
+        ensures rows { result.rows.items ≡ self.rows.items }
+        ensures left_out { result.left_out ≡ self.left_out }
         ensures ended { EndsAs O.CYCLE (state_of O.CYCLE host.now) result }
         ensures place { is_endless result.ending ≡ false → fault_in result.ending ≡ None → result.ending ≡ ended_by self.missing }
     {
@@ -119,6 +157,7 @@ impl Notes {
         let ending = self.ending(module.control().busy(), module.fault());
         Report {
             sequence,
+            started,
             rows: self.rows,
             left_out: self.left_out,
             ticks: self.ticks,
@@ -136,6 +175,14 @@ fn missing_in<O: StepOutput>(host: &Host<O>) -> Option<Position>
     let at = control.upcoming()?;
     let ends = control.open_sub_sequences() == 0 && host.phase_at(at).is_none();
     ends.then_some(at)
+}
+
+// Whether a sequence has been started: the next tick enters a phase, and the fault record is empty.
+fn is_started<O: StepOutput>(host: &Host<O>) -> bool
+    ensures { result ≡ is_started O.CYCLE (state_of O.CYCLE host.now) }
+{
+    let module = host.module();
+    module.control().upcoming().is_some() && module.fault().is_none()
 }
 
 // The line that starts a sequence, after the address.
@@ -163,6 +210,7 @@ pub fn run<O: StepOutput>(
     host.send_own(b"DI");
     host.send_own(b"GL FF");
     host.send_own(&start_line(sequence));
+    let started = is_started(host);
     let mut notes = Notes::new(heap);
     for _ in 0..MOST_TICKS {
         if !host.module().control().busy() {
@@ -170,6 +218,6 @@ pub fn run<O: StepOutput>(
         }
         notes.tick(host)?;
     }
-    notes.close()?;
-    Ok(notes.report(host, sequence))
+    notes.complete()?;
+    Ok(notes.report(host, sequence, started))
 }

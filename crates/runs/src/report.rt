@@ -25,9 +25,11 @@ pub enum Ending {
 pub struct Report {
     /// Its number.
     pub sequence: u8,
+    /// Whether it was started: its phase 1 was to be entered, and the fault record was empty.
+    pub started: bool,
     /// Its phases in the order in which they were entered, at most 1,000 rows.
     pub rows: Vec<Row>,
-    /// How many more there were.
+    /// How many times the phases came that are not among the rows.
     pub left_out: u32,
     /// The ticks of the whole run.
     pub ticks: u32,
@@ -71,6 +73,9 @@ impl fmt::Display for Report {
     fn fmt<W: fmt::Write>(&self, f: &mut fmt::Formatter<W>) -> fmt::Result {
         let sequence = self.sequence;
         writeln!(f, "run of sequence {sequence:02}")?;
+        if !self.started {
+            writeln!(f, "  THE SEQUENCE WAS NOT STARTED")?;
+        }
         writeln!(
             f,
             "  phase       tick       at ms      for ms      steps    counter  outputs"

@@ -1,4 +1,8 @@
 //! One phase of a run.
+ghost use Rattle.std.specs.Prelude.{◌≡◌, ◌+◌, ◌<◌, ◌^◌, ◌+ℤ◌, FitsSigned};
+ghost use Rattle.std.specs.Int.{w32};
+ghost use Rattle.runs.specs.Notes.{begun_row, counted};
+
 use phases::Position;
 use std::fmt;
 
@@ -23,7 +27,9 @@ pub struct Row {
 
 impl Row {
     // A phase that was entered in that tick, under these outputs.
-    pub(crate) fn new(at: Position, entered: u32, outputs: u8) -> Row {
+    pub(crate) fn new(at: Position, entered: u32, outputs: u8) -> Row
+        ensures { result ≡ begun_row at entered outputs }
+    {
         Row {
             at,
             times: 1,
@@ -36,18 +42,14 @@ impl Row {
     }
 
     // A tick of the phase: the step made, and the counter then.
-    pub(crate) fn count(&mut self, step: i8, counter: i32) {
-        self.ticks = self.ticks.saturating_add(1);
-        self.steps = self.steps.saturating_add(i32::from(step));
+    pub(crate) fn count(&mut self, step: i8, counter: i32)
+        requires ticks { self.old.ticks + 1 < 2 ^ 32 }
+        requires steps { FitsSigned w32 (self.old.steps +ℤ step) }
+        ensures { self.new ≡ counted step counter self.old }
+    {
+        self.ticks += 1;
+        self.steps += i32::from(step);
         self.counter = counter;
-    }
-
-    // The phase entered once more, which came to that.
-    pub(crate) fn repeat(&mut self, again: Row) {
-        self.times = self.times.saturating_add(1);
-        self.ticks = self.ticks.saturating_add(again.ticks);
-        self.steps = self.steps.saturating_add(again.steps);
-        self.counter = again.counter;
     }
 }
 

@@ -1,7 +1,7 @@
 -- The lines that pass between host and module are the lines of the file.
 use Rattle.std.proofs.Common.{◌≡◌, ℕ, ◌+◌, length, Bool, true, false, cond, List, [], ◌∷◌, ◌++◌, map, replicate, vec_items, Some, None, refl, sym, ap, ◌∙◌, ◌==◌}
 use Rattle.std.specs.Option.{option_to_list}
-use Rattle.std.proofs.lemmas.List.{map-append}
+use Rattle.std.proofs.lemmas.List.{map-append, length-map}
 use Rattle.lines.specs.Lines.{Kept, kept_of, taken}
 use Rattle.law.specs.Events.Event.{letter, ending, skipped}
 use Rattle.law.specs.History.{State, next}
@@ -11,9 +11,12 @@ use Rattle.phases.specs.Phases.{blank}
 use Rattle.outputs.specs.Meaning.{Meaning}
 use Rattle.history.specs.Histories.{started}
 use Rattle.sheet.specs.declared.sheet.Sheet.{Sheet}
+use Rattle.std.specs.Prelude.{◌&&◌}
+use Rattle.lines.specs.Lines.{kept}
+use Rattle.sheet.specs.declared.entry.Entry.{Entry}
 use Rattle.sheet.specs.Readings.{told}
 use Rattle.sheet.specs.Telling.{Tells, file_sent}
-use Rattle.sheet.specs.Files.{Gathered, nothing, onward, gathered}
+use Rattle.sheet.specs.Files.{Gathered, nothing, onward, gathered, is_empty}
 use Rattle.sheet.specs.Exchanges.{Exchange, exchange_of, fresh, exchange, Sent, byte_sent, bytes_sent}
 
 abbrev pub lines_in : List Exchange → List Kept
@@ -50,3 +53,10 @@ told_all cycle a m bs s tells =
     let lines = sym (map-map (λ (x : Exchange). x.line) exchange_of (vec_items s.entries)) ∙ (ap lines_in tells.exchanges ∙ ap (λ w. w.lines) seen) in
     let held = tells.held ∙ ap (λ w. w.held) seen in
     λ i. record { lines = lines i; held = held i }
+
+-- whether the file is empty shows in the sheet
+pub told_empty : (bs : List ℕ) (s : Sheet) → told s ≡ gathered nothing bs →
+    is_empty bs ≡ (length (vec_items s.entries) == 0 && length (kept s.held).characters == 0)
+told_empty bs s e =
+    ap (λ (g : Gathered). length g.lines == 0 && length g.held.characters == 0) (sym e)
+    ∙ ap (λ n. n == 0 && length (kept s.held).characters == 0) (length-map (vec_items s.entries) (λ (x : Entry). kept x.line))

@@ -1,11 +1,11 @@
 //! The reading of a file: its characters go to a module, and its lines to the shelf; then the phases are read back, and the sequences run.
-ghost use Rattle.std.specs.Prelude.{◌≡◌, true, [], ◌∷◌, ◌++◌, nat_le, IfOk, IfErr, OnOk};
+ghost use Rattle.std.specs.Prelude.{◌≡◌, true, false, [], ◌∷◌, ◌++◌, nat_le, IfOk, IfErr, OnOk};
 ghost use Rattle.std.specs.Option.{option_and_then};
 ghost use Rattle.history.specs.Hosts.{state_of, after_own};
 ghost use Rattle.runs.specs.Runs.{RunInTurn};
 ghost use Rattle.sheet.specs.Characters.{AllText};
 ghost use Rattle.sheet.specs.Reasons.{Explained};
-ghost use Rattle.sheet.specs.Files.{nothing, gathered};
+ghost use Rattle.sheet.specs.Files.{nothing, gathered, is_empty};
 ghost use Rattle.sheet.specs.Exchanges.{exchange_of, exchanges_of, fresh, byte_sent, bytes_sent};
 ghost use Rattle.sheet.specs.ReadBack.{rs_line, read_back, after_reading, Compared, after_shelf};
 ghost use Rattle.sheet.specs.Shelves.{position_of, stepped};
@@ -225,6 +225,7 @@ pub fn proofread<O: StepOutput + Drop>(
 ) -> Result<Sheet, Unreadable>
     ensures text { OnOk result (AllText bytes.now) }
     ensures address { OnOk result (nat_le address 63 ≡ true) }
+    ensures holds_some { OnOk result (is_empty bytes.now ≡ false) }
     ensures refused { IfErr result (λ e. Explained address bytes.now e) }
     ensures lines { IfOk result (λ s. told s ≡ gathered nothing bytes.now) }
     ensures tells { IfOk result (λ s. Tells O.CYCLE address (file_sent O.CYCLE address (O.meaning output) bytes.now) s) }

@@ -1,6 +1,6 @@
 //! The proof sheet of a sequence file.
 ghost use Rattle.std.specs.Prelude.{◌≡◌, ◌≤◌, vec_len};
-ghost use Rattle.sheet.specs.Sheets.{refused_in, stored_in, faults_in, is_unfinished, is_clean};
+ghost use Rattle.sheet.specs.Sheets.{refused_in, stored_in, faults_in, is_unfinished, all_started, is_clean};
 
 use crate::entry::Entry;
 use crate::text::Text;
@@ -61,13 +61,22 @@ impl Sheet {
         !self.held.characters().is_empty()
     }
 
-    /// Whether no line is refused, none is unfinished, each phase is stored as on the shelf, and no run was ended by a fault.
+    // Whether each of the module's sequences was started.
+    fn all_started(&self) -> bool
+        ensures { result ≡ all_started self.now.runs.items }
+    {
+        self.runs.iter().all(|run| run.started)
+    }
+
+    /// Whether no line is refused, none is unfinished, each phase is stored as on the shelf, each sequence was started, and no run was ended
+    /// by a fault.
     pub fn is_clean(&self) -> bool
         ensures { result ≡ is_clean self.now }
     {
         self.refused() == 0
             && !self.is_unfinished()
             && self.stored() == self.intended()
+            && self.all_started()
             && self.faulty_runs() == 0
     }
 

@@ -1,5 +1,5 @@
-//! Tests: movements, runs, outputs, the axis and the texts of answers, the proof sheet on short files, and what the arguments of the
-//! programs ask for.
+//! Tests: movements, runs, outputs, the axis and the texts of answers, the proof sheet on short files, how a run is told, and what the
+//! arguments of the programs ask for.
 #![tactic(auto)]
 
 #[cfg(test)]
@@ -14,5 +14,7 @@ mod movement_ticks;
 mod output_steps;
 #[cfg(test)]
 mod proof_sheets;
+#[cfg(test)]
+mod report_texts;
 #[cfg(test)]
 mod sequence_runs;

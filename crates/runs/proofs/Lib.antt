@@ -1,0 +1,4 @@
+pub mod Bounds
+pub mod Ended
+pub mod EndingLemmas
+pub mod RowLemmas
