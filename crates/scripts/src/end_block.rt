@@ -1,4 +1,7 @@
 //! The end block of a transcript: what a module is.
+ghost use Rattle.std.specs.Prelude.{OnOk};
+ghost use Rattle.scripts.specs.Told.{Extends};
+
 use crate::fault_text::FaultText;
 use crate::snapshot::{ModuleState, Shown, Snapshot};
 use crate::transcript::Transcript;
@@ -10,14 +13,20 @@ use texts::answer_rs;
 
 impl Transcript {
     // The end block of a module.
-    pub(crate) fn state(&mut self, state: &ModuleState) -> Result<(), AllocError> {
+    #[tactic(auto, using(crate::proofs::Told::extends_add, crate::proofs::Told::extends_none, crate::proofs::Told::extends_then))]
+    pub(crate) fn state(&mut self, state: &ModuleState) -> Result<(), AllocError>
+        ensures { OnOk result (Extends self.old.bytes.items self.new.bytes.items) }
+    {
         self.end(&state.snapshot)?;
         self.parameters(&state.snapshot)?;
         self.sequences(state)?;
-        self.shown(state.snapshot.shown)
+        self.shown(state.snapshot.shown)?;
+        Ok(())
     }
 
-    fn end(&mut self, now: &Snapshot) -> Result<(), AllocError> {
+    fn end(&mut self, now: &Snapshot) -> Result<(), AllocError>
+        ensures { OnOk result (Extends self.old.bytes.items self.new.bytes.items) }
+    {
         let counter = now.counter;
         let place = now.place;
         let power = if now.power { "on" } else { "off" };
@@ -31,7 +40,10 @@ impl Transcript {
         self.add(line.as_bytes())
     }
 
-    fn parameters(&mut self, now: &Snapshot) -> Result<(), AllocError> {
+    #[tactic(auto, using(crate::proofs::Told::extends_add, crate::proofs::Told::extends_none, crate::proofs::Told::extends_then))]
+    fn parameters(&mut self, now: &Snapshot) -> Result<(), AllocError>
+        ensures { OnOk result (Extends self.old.bytes.items self.new.bytes.items) }
+    {
         let address = now.control.address;
         let settings = now.control.settings;
         let start = settings.parameters.start_speed();
@@ -43,11 +55,14 @@ impl Transcript {
             "parameters: address {address:02} VN {start} VX {plateau} TR {slope} DR {distance} direction {direction} start "
         )?;
         self.add(line.as_bytes())?;
-        self.chosen(now.control.chosen)
+        self.chosen(now.control.chosen)?;
+        Ok(())
     }
 
     // The sequence chosen for the start.
-    fn chosen(&mut self, chosen: Option<u8>) -> Result<(), AllocError> {
+    fn chosen(&mut self, chosen: Option<u8>) -> Result<(), AllocError>
+        ensures { OnOk result (Extends self.old.bytes.items self.new.bytes.items) }
+    {
         match chosen {
             Some(number) => {
                 let text = format!(in self.heap; "{number}\n")?;
@@ -58,7 +73,10 @@ impl Transcript {
     }
 
     // The sequences in order of creation.
-    fn sequences(&mut self, state: &ModuleState) -> Result<(), AllocError> {
+    #[tactic(auto, using(crate::proofs::Told::extends_add, crate::proofs::Told::extends_none, crate::proofs::Told::extends_then))]
+    fn sequences(&mut self, state: &ModuleState) -> Result<(), AllocError>
+        ensures { OnOk result (Extends self.old.bytes.items self.new.bytes.items) }
+    {
         for block in state.snapshot.control.directory.blocks() {
             let Block { number, reserve } = *block;
             let line = format!(in self.heap; "sequence {number} reserve {reserve}\n")?;
@@ -69,7 +87,10 @@ impl Transcript {
     }
 
     // The written records of a sequence.
-    fn phases(&mut self, state: &ModuleState, block: Block) -> Result<(), AllocError> {
+    #[tactic(auto, using(crate::proofs::Told::extends_add, crate::proofs::Told::extends_none, crate::proofs::Told::extends_then))]
+    fn phases(&mut self, state: &ModuleState, block: Block) -> Result<(), AllocError>
+        ensures { OnOk result (Extends self.old.bytes.items self.new.bytes.items) }
+    {
         let control = &state.snapshot.control;
         for phase in 1..=block.reserve {
             let at = Position {
@@ -84,7 +105,9 @@ impl Transcript {
     }
 
     // The text that a record is read back by, without its end.
-    fn phase(&mut self, address: u8, at: Position, record: &Phase) -> Result<(), AllocError> {
+    fn phase(&mut self, address: u8, at: Position, record: &Phase) -> Result<(), AllocError>
+        ensures { OnOk result (Extends self.old.bytes.items self.new.bytes.items) }
+    {
         let mut reply = [0u8; REPLY_ROOM];
         let Ok(length) = answer_rs(record, &mut reply, address, at) else {
             return Ok(());
@@ -94,7 +117,9 @@ impl Transcript {
         self.add(b"\n")
     }
 
-    fn shown(&mut self, shown: Shown) -> Result<(), AllocError> {
+    fn shown(&mut self, shown: Shown) -> Result<(), AllocError>
+        ensures { OnOk result (Extends self.old.bytes.items self.new.bytes.items) }
+    {
         let line = match shown {
             Shown::Lines(pattern) => format!(in self.heap; "lines {pattern}\n")?,
             Shown::Pulses(forward, back) => format!(in self.heap; "pulses {forward} {back}\n")?,

@@ -7,6 +7,7 @@ mod expected;
 mod fault_text;
 mod line_error;
 mod numbers;
+mod order;
 mod playback;
 mod playing;
 mod reading;

@@ -1,4 +1,10 @@
 //! Histories of modules over each step output.
+ghost use Rattle.std.specs.Prelude.{◌≡◌, true, length, map, take, drop};
+ghost use Rattle.outputs.specs.Meaning.{initial};
+ghost use Rattle.history.specs.Histories.{started, shown, acceptable};
+ghost use Rattle.scripts.specs.Playing.{cycle_of, after_calls, answers_to};
+ghost use Rattle.scripts.specs.Snapshots.{IsSnapshot};
+
 use crate::snapshot::{ShownOutput, Snapshot};
 use faults::Fault;
 use history::{Answer, Call, history};
@@ -20,18 +26,28 @@ impl History<'_> {
         output: O,
         memory: &mut [Phase],
         answers: &mut [Result<Answer, Fault>],
-    ) -> Option<Snapshot> {
-        let module = history(output, self.address, self.calls, memory, answers).ok()?;
-        Some(Snapshot::from(&module))
+    ) -> Snapshot
+        requires { acceptable self.address (length memory.old) (length self.calls.now) (length answers.old) ≡ true }
+        ensures shot { IsSnapshot O.StepOutput.CYCLE (after_calls O.StepOutput.CYCLE self.entry.calls.now (started O.StepOutput.CYCLE self.entry.address (O.StepOutput.meaning output) memory.old)) result }
+        ensures answers { map shown (take (length self.entry.calls.now) answers.new) ≡ answers_to O.StepOutput.CYCLE self.entry.calls.now (started O.StepOutput.CYCLE self.entry.address (O.StepOutput.meaning output) memory.old) }
+        ensures beyond { drop (length self.entry.calls.now) answers.new ≡ drop (length self.entry.calls.now) answers.old }
+    {
+        let module = history(output, self.address, self.calls, memory, answers).unwrap();
+        Snapshot::from(&module)
     }
 
-    // Plays the history, and answers what the module is then; none where the history is refused.
+    // Plays the history, and answers what the module is then.
     pub(crate) fn play(
         self,
         output: Output,
         memory: &mut [Phase],
         answers: &mut [Result<Answer, Fault>],
-    ) -> Option<Snapshot> {
+    ) -> Snapshot
+        requires { acceptable self.address (length memory.old) (length self.calls.now) (length answers.old) ≡ true }
+        ensures shot { IsSnapshot (cycle_of output) (after_calls (cycle_of output) self.entry.calls.now (started (cycle_of output) self.entry.address initial memory.old)) result }
+        ensures answers { map shown (take (length self.entry.calls.now) answers.new) ≡ answers_to (cycle_of output) self.entry.calls.now (started (cycle_of output) self.entry.address initial memory.old) }
+        ensures beyond { drop (length self.entry.calls.now) answers.new ≡ drop (length self.entry.calls.now) answers.old }
+    {
         match output {
             Output::Full => self.play_over(FullStepCoils::new(), memory, answers),
             Output::Half => self.play_over(HalfStepCoils::new(), memory, answers),

@@ -1,10 +1,17 @@
 //! A script played from its first line to its last.
+ghost use Rattle.std.specs.Prelude.{◌≡◌, ◌==◌, map, IfOk, OnOk, if◌then◌else◌};
+ghost use Rattle.std.specs.List.{slice_split};
+ghost use Rattle.scripts.specs.Asked.{asked};
+ghost use Rattle.scripts.specs.Playing.{script_told, Transcribed};
+ghost use Rattle.scripts.specs.Scripts.{IsSound, all_told, pending, Begins, GoesOnly, GoesOn, LineTaken};
+ghost use Rattle.scripts.specs.Told.{Adds};
+
 use crate::error::ScriptError;
 use crate::expected::Expected;
 use crate::line_error::LineError;
 use crate::playback::tell_section;
 use crate::reading::read_line;
-use crate::section::{LineKind, Section};
+use crate::section::Section;
 use crate::step::Step;
 use crate::transcript::Transcript;
 use lines::check_address;
@@ -20,7 +27,10 @@ struct Script<'a> {
 
 impl<'a> Script<'a> {
     // Tells the module so far, with its end block if the script ends it.
-    fn tell(&self, ended: bool, transcript: &mut Transcript) -> Result<(), AllocError> {
+    fn tell(&self, ended: bool, transcript: &mut Transcript) -> Result<(), AllocError>
+        requires { IsSound self.now.section }
+        ensures { OnOk result (Adds (if ended then all_told self.now.section else pending self.now.section) transcript.old.bytes.items transcript.new.bytes.items) }
+    {
         match &self.section {
             Some(section) => tell_section(section, ended, transcript),
             None => Ok(()),
@@ -34,52 +44,68 @@ impl<'a> Script<'a> {
         output: Output,
         address: u8,
         transcript: &mut Transcript,
-    ) -> Result<(), AllocError> {
+    ) -> Result<(), AllocError>
+        requires { IsSound self.old.section }
+        ensures { OnOk result (Begins line.now output address self.old.section self.new.section transcript.old.bytes.items transcript.new.bytes.items) }
+    {
         self.tell(true, transcript)?;
         self.section = None;
         transcript.echo(line)?;
         if let Err(fault) = check_address(address) {
-            return transcript.refused(fault);
+            transcript.refused(fault)?;
+            return Ok(());
         }
         self.section = Some(Section::new(self.heap, output, address));
         Ok(())
     }
 
-    // The module that a line goes on with.
-    fn gathered(&mut self) -> Result<&mut Section<'a>, Expected> {
-        self.section.as_mut().ok_or(Expected::FirstModule)
+    // Goes on with the module.
+    fn go_on(&mut self, line: &'a [u8], step: Step<'a>) -> Result<(), LineError>
+        requires sound { IsSound self.old.section }
+        requires step { GoesOnly (asked step) }
+        ensures step { GoesOnly (asked step.entry) }
+        ensures taken { GoesOn line.now (asked step.entry) self.old.section self.new.section result }
+    {
+        match &mut self.section {
+            Some(section) => section.take(line, step),
+            None => Err(LineError::Expected(Expected::FirstModule)),
+        }
     }
 
     // Takes a line.
-    fn take(&mut self, line: &'a [u8], transcript: &mut Transcript) -> Result<(), LineError> {
-        let Some(step) = read_line(line)? else {
-            return Ok(());
-        };
-        match step {
-            Step::Module { output, address } => {
-                Ok(self.begin(line, output, address, transcript)?)
+    fn take(&mut self, line: &'a [u8], transcript: &mut Transcript) -> Result<(), LineError>
+        requires { IsSound self.old.section }
+        ensures { LineTaken line.now self.old.section self.new.section transcript.old.bytes.items transcript.new.bytes.items result }
+    {
+        match read_line(line)? {
+            None => Ok(()),
+            Some(Step::Module { output, address }) => {
+                self.begin(line, output, address, transcript)?;
+                Ok(())
             }
-            Step::Send(text) => self.gathered()?.send(line, text),
-            Step::Type(text) => self.gathered()?.type_text(line, text),
-            Step::Once(call) => self.gathered()?.once(line, call),
-            Step::Ticks(count) => self.gathered()?.tick(line, count),
-            Step::Fault => Ok(self.gathered()?.note(line, LineKind::Fault)?),
-            Step::State => Ok(self.gathered()?.note(line, LineKind::State)?),
+            Some(step) => self.go_on(line, step),
         }
     }
 }
 
-/// Plays a script and adds its transcript. A line that is not understood ends it; what came before is in the transcript.
-pub fn transcribe(
-    heap: Global,
-    text: &[u8],
-    transcript: &mut Transcript,
-) -> Result<(), ScriptError> {
+// The lines of a script, each without the 0Ah that ends it.
+fn split_lines(heap: Global, text: &[u8]) -> Result<Vec<&[u8]>, AllocError>
+    ensures { IfOk result (λ v. map (λ l. l.now) v.items ≡ slice_split (λ b. b == 10) text.now) }
+{
+    text.split(|c| *c == b'\n').collect(heap)
+}
+
+/// Plays a script and adds its transcript. A line that is not understood ends it, with its number and what was expected there; what
+/// came before is in the transcript. Where the heap has no room, the transcript may end anywhere.
+pub fn transcribe(heap: Global, text: &[u8], transcript: &mut Transcript) -> Result<(), ScriptError>
+    ensures { Transcribed (script_told text.now) transcript.old.bytes.items transcript.new.bytes.items result }
+{
+    let lines = split_lines(heap, text)?;
     let mut script = Script {
         heap,
         section: None,
     };
-    for (i, line) in text.split(|c| *c == b'\n').enumerate() {
+    for (i, line) in lines.iter().enumerate() {
         match script.take(line, transcript) {
             Ok(()) => {}
             Err(LineError::NoMemory) => return Err(ScriptError::NoMemory),

@@ -1,4 +1,6 @@
 //! What is told of a module at one time.
+ghost use Rattle.std.specs.Prelude.{◌≡◌};
+
 use control::Control;
 use faults::Fault;
 use module::Module;
@@ -39,7 +41,13 @@ pub(crate) struct Snapshot {
 }
 
 impl<O: ShownOutput> From<&Module<O>> for Snapshot {
-    fn from(module: &Module<O>) -> Snapshot {
+    fn from(module: &Module<O>) -> Snapshot
+        ensures control { result.control ≡ module.now.control }
+        ensures fault { result.fault ≡ module.now.fault }
+        ensures counter { result.counter ≡ module.now.axis.state.counter }
+        ensures place { result.place ≡ module.now.axis.state.place }
+        ensures power { result.power ≡ module.now.axis.state.power }
+    {
         let axis = module.axis();
         Snapshot {
             control: *module.control(),

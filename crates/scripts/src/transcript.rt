@@ -1,6 +1,7 @@
 //! The lines of a transcript.
 ghost use Rattle.std.specs.Prelude.{◌≡◌, [], ◌++◌, OnOk};
 ghost use Rattle.scripts.specs.Replies.{escaped_of, escaped_all, reply_of, echo_of};
+ghost use Rattle.scripts.specs.Texts.{tick_of, after_of, refused_of, fault_of};
 
 use crate::fault_text::FaultText;
 use faults::Fault;
@@ -85,7 +86,9 @@ impl Transcript {
     }
 
     // A tick with a step or a change of busy.
-    pub(crate) fn tick(&mut self, number: usize, step: i8, busy: bool) -> Result<(), AllocError> {
+    pub(crate) fn tick(&mut self, number: usize, step: i8, busy: bool) -> Result<(), AllocError>
+        ensures { OnOk result (self.new.bytes.items ≡ self.old.bytes.items ++ tick_of number step busy) }
+    {
         let busy = u8::from(busy);
         // A tick without a step is told as 0, without a sign.
         let sign = if step > 0 { "+" } else { "" };
@@ -94,19 +97,25 @@ impl Transcript {
     }
 
     // The end of a line of ticks.
-    pub(crate) fn after(&mut self, count: usize, busy: bool) -> Result<(), AllocError> {
+    pub(crate) fn after(&mut self, count: usize, busy: bool) -> Result<(), AllocError>
+        ensures { OnOk result (self.new.bytes.items ≡ self.old.bytes.items ++ after_of count busy) }
+    {
         let busy = u8::from(busy);
         let line = format!(in self.heap; "after {count} ticks: busy {busy}\n")?;
         self.add(line.as_bytes())
     }
 
-    pub(crate) fn refused(&mut self, fault: Fault) -> Result<(), AllocError> {
+    pub(crate) fn refused(&mut self, fault: Fault) -> Result<(), AllocError>
+        ensures { OnOk result (self.new.bytes.items ≡ self.old.bytes.items ++ refused_of fault) }
+    {
         let code = fault.cause.number();
         let line = format!(in self.heap; "refused {code}\n")?;
         self.add(line.as_bytes())
     }
 
-    pub(crate) fn fault(&mut self, fault: Option<Fault>) -> Result<(), AllocError> {
+    pub(crate) fn fault(&mut self, fault: Option<Fault>) -> Result<(), AllocError>
+        ensures { OnOk result (self.new.bytes.items ≡ self.old.bytes.items ++ fault_of fault) }
+    {
         let fault = FaultText(fault);
         let line = format!(in self.heap; "fault {fault}\n")?;
         self.add(line.as_bytes())
