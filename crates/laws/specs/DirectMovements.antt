@@ -33,6 +33,7 @@ pub record MovesDirectly (z : ℤ) (r t : ModuleState) : Type 0 where
   pub power : t.axis.power ≡ true
   pub movement : GoesOn (begun r.control.settings.values None direction steps false) t
 
+-- an accepted GO, GH or GA does this
 abbrev pub LeadsDirectly : Type 0
 LeadsDirectly =
     (cycle : ℕ) (s : State (module_device cycle)) (o : Order) (z : ℤ) → accepted_order cycle s ≡ Some o →

@@ -34,18 +34,19 @@ use Rattle.module.specs.Machine.{module_device}
 abbrev pub store_in : (cycle : ℕ) → State (module_device cycle) → Store
 store_in cycle s = store_of s.core.rest.control s.core.rest.records
 
--- what SN, SE and SP say to the store, with values within their limits; no other command says anything to it
+-- a command of the store, where its values are within their limits
 abbrev pub with_values : {A : Type 0} → Result A Fault → (A → Stored) → Option Stored
 with_values (Ok x) make = Some (make x)
 with_values (Err f) make = None
 
+-- SN, SE and SP are commands of the store, and no other command is
 abbrev pub to_store : Command → Option Stored
 to_store (Create a) = with_values (block_values a) (λ b. SN b.number b.reserve)
 to_store (Erase n) = with_values (erase_value n) SE
 to_store (Write p) = with_values (sp_values p) (λ a. SP a.0.sequence a.0.phase a.1)
 to_store _ = None
 
--- what a line says to the store, where it is accepted
+-- the command of the store that a line gives, where it is accepted
 abbrev pub given_by : Result Order Fault → Result Command Fault → Option Stored
 given_by (Ok o) (Ok c) = to_store c
 given_by _ _ = None
@@ -58,6 +59,7 @@ given_in Stranger k = None
 abbrev pub given : (cycle : ℕ) → State (module_device cycle) → Option Stored
 given cycle s = given_in (judged_line s.core.rest s.line) s.line
 
+-- the same at a call: a line gives it at its end
 abbrev pub stored_at : (cycle : ℕ) → State (module_device cycle) → Event → List Stored
 stored_at cycle s ending = option_to_list (given cycle s)
 stored_at cycle s _ = []

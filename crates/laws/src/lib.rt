@@ -12,11 +12,11 @@ ghost use Rattle.laws.specs.Ended.{OutputsAtTheEnd};
 ghost use Rattle.laws.specs.Entering.{EntersByNature, MovesByNature, AgreesBitByBit};
 ghost use Rattle.laws.specs.Examples.{WorkedExamples};
 ghost use Rattle.laws.specs.Limits.{WorkedLimits};
+ghost use Rattle.laws.specs.Memory.{StoresAcceptedLines, StaysFit, TellsStoredPhase, StoresItAgain};
 ghost use Rattle.laws.specs.OnTheLine.{WorkedLines};
 ghost use Rattle.laws.specs.Powered.{PowerWhileMoving, NoStepRefused};
 ghost use Rattle.laws.specs.Refusals.{WorkedRefusals};
 ghost use Rattle.laws.specs.Sequences.{WorkedSequences};
-ghost use Rattle.laws.specs.Memory.{StoresAcceptedLines, StaysFit, TellsStoredPhase, StoresItAgain};
 ghost use Rattle.laws.specs.Speeds.{AddsItsSpeed, GoesUpItsSlope, StaysAtStartSpeed};
 ghost use Rattle.laws.specs.Stored.{TellsWhatWasStored};
 ghost use Rattle.laws.specs.WhileBusy.{BusyTakes};
@@ -37,8 +37,8 @@ pub fn worked_examples()
 
 /// A sequence runs only when it is called, and it is the one that was called; which calls move a run; what a busy module takes; who is
 /// answered what, and what the fault record holds then; RS tells what SP stored; an accepted line does what its order says, and nothing
-/// else sets the settings or the choice; the outputs are FFh where what went on has ended; and power is on while a movement goes on, so that no step is
-/// refused.
+/// else sets the settings or the choice; the outputs are FFh where what went on has ended; and power is on while a movement goes on, so that
+/// no step is refused.
 pub fn module_laws()
     ensures called { RunsOnlyWhenCalled }
     ensures begins { RunsTheCalled }
@@ -66,8 +66,8 @@ pub fn memory_laws()
     ensures again { StoresItAgain }
 {}
 
-/// A tick of a movement adds its speed; a movement goes up its slope in 40 ticks for each ms of TR, and has its plateau speed then; at constant speed it has its start speed in
-/// every tick.
+/// A tick of a movement adds its speed; a movement goes up its slope in 40 ticks for each ms of TR, and has its plateau speed then; at
+/// constant speed it has its start speed in every tick.
 pub fn speed_laws()
     ensures adds { AddsItsSpeed }
     ensures slope { GoesUpItsSlope }
