@@ -2,4 +2,8 @@ pub mod Meaning
 pub mod Patterns
 pub mod Coils
 pub mod Pulses
+pub mod DryRuns
+pub mod InRange
+pub mod Requests
+pub mod Playing
 pub mod Repeating
