@@ -37,9 +37,9 @@ impl fmt::Display for WrongUse<'_> {
             WrongUse::NoAddress => write!(f, "--address wants an address, 00 to 63"),
             WrongUse::Output(text) => write!(
                 f,
-                "'{text}' is no step output: there are full, half and pulse"
+                "'{text}' is no step output: there are full, half, pulse and dry"
             ),
-            WrongUse::NoOutput => write!(f, "--output wants full, half or pulse"),
+            WrongUse::NoOutput => write!(f, "--output wants full, half, pulse or dry"),
             WrongUse::Option(text) => write!(f, "there is no option '{text}'"),
             WrongUse::TwoFiles(text) => write!(f, "one file at a time: '{text}' is a second one"),
             WrongUse::NoFile => write!(f, "no file is named"),

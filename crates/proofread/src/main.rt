@@ -1,12 +1,12 @@
 //! Proofreads a sequence file: prints what became of each line, and the shelf against the module, and the runs.
 #![tactic(auto)]
 
-use outputs::{FullStepCoils, HalfStepCoils, PulseOutput};
+use outputs::{DryRunOutput, FullStepCoils, HalfStepCoils, PulseOutput};
 use programs::{Failed, Output, Program, SheetRequest, sheet_request};
 use sheet::{Sheet, Unreadable, proofread};
 use std::process::ExitCode;
 
-const USAGE: &str = "usage: proofread [--address NN] [--output full|half|pulse] FILE
+const USAGE: &str = "usage: proofread [--address NN] [--output full|half|pulse|dry] FILE
 
 Sends a sequence file to a module that exists only here, and prints each line
 with its reply; then the shelf, which is what the file means to store, against
@@ -54,6 +54,7 @@ fn proofread_at(
         Output::Full => proofread(heap, FullStepCoils::new(), address, bytes),
         Output::Half => proofread(heap, HalfStepCoils::new(), address, bytes),
         Output::Pulse => proofread(heap, PulseOutput::new(), address, bytes),
+        Output::Dry => proofread(heap, DryRunOutput::new(), address, bytes),
     };
     print_sheet(program, address, name, sheet)
 }

@@ -9,7 +9,7 @@ use Rattle.scripts.specs.declared.expected.Expected.TheVariants.{Order, Module, 
 -- what was expected
 abbrev pub expected_text : Expected → List ℕ
 expected_text Order = codes "module, send, type, byte, tick, levels, power-up, room, lent, fault, state or a comment"
-expected_text Module = codes "module full|half|pulse and an address in decimal"
+expected_text Module = codes "module full|half|pulse|dry and an address in decimal"
 expected_text FirstModule = codes "a line that begins a module, as module full 00"
 expected_text Byte = codes "byte HH or byte HH damaged, HH in hexadecimal"
 expected_text Ticks = codes "tick N, N in decimal and at most " ++ decimal 20000000

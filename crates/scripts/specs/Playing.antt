@@ -6,6 +6,7 @@ use Rattle.phases.specs.Phases.{blank}
 use Rattle.outputs.specs.Meaning.{initial}
 use Rattle.outputs.specs.Patterns.{full_cycle, half_cycle}
 use Rattle.outputs.specs.Pulses.{pulse_cycle}
+use Rattle.outputs.specs.DryRuns.{dry_cycle}
 use Rattle.faults.specs.Faults.{wrong_address}
 use Rattle.control.specs.States.{is_busy}
 use Rattle.law.specs.declared.Call.{Call}
@@ -15,7 +16,7 @@ use Rattle.law.specs.History.{State as Module, next, answer, answers, after}
 use Rattle.module.specs.Machine.{module_device}
 use Rattle.history.specs.Histories.{started}
 use Rattle.programs.specs.declared.output.Output.{Output}
-use Rattle.programs.specs.declared.output.Output.TheVariants.{Full, Half, Pulse}
+use Rattle.programs.specs.declared.output.Output.TheVariants.{Full, Half, Pulse, Dry}
 use Rattle.scripts.specs.declared.error.ScriptError.{ScriptError}
 use Rattle.scripts.specs.declared.error.ScriptError.TheVariants.{Line, NoMemory}
 use Rattle.scripts.specs.declared.expected.Expected.{Expected}
@@ -34,6 +35,7 @@ abbrev pub cycle_of : Output → ℕ
 cycle_of Full = full_cycle
 cycle_of Half = half_cycle
 cycle_of Pulse = pulse_cycle
+cycle_of Dry = dry_cycle
 
 -- a new module over an output and an unwritten memory, set to its address
 abbrev pub new_module : (o : Output) → ℕ → Module (module_device (cycle_of o))

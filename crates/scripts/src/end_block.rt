@@ -123,6 +123,7 @@ impl Transcript {
         let line = match shown {
             Shown::Lines(pattern) => format!(in self.heap; "lines {pattern}\n")?,
             Shown::Pulses(forward, back) => format!(in self.heap; "pulses {forward} {back}\n")?,
+            Shown::Number(number) => format!(in self.heap; "number {number:+}\n")?,
         };
         self.add(line.as_bytes())
     }

@@ -41,7 +41,7 @@ impl fmt::Display for Expected {
                 f,
                 "module, send, type, byte, tick, levels, power-up, room, lent, fault, state or a comment"
             ),
-            Expected::Module => write!(f, "module full|half|pulse and an address in decimal"),
+            Expected::Module => write!(f, "module full|half|pulse|dry and an address in decimal"),
             Expected::FirstModule => write!(f, "a line that begins a module, as module full 00"),
             Expected::Byte => write!(f, "byte HH or byte HH damaged, HH in hexadecimal"),
             Expected::Ticks => write!(f, "tick N, N in decimal and at most {MOST_CALLS}"),

@@ -8,7 +8,7 @@ ghost use Rattle.scripts.specs.Snapshots.{IsSnapshot};
 use crate::snapshot::{ShownOutput, Snapshot};
 use faults::Fault;
 use history::{Answer, Call, history};
-use outputs::{FullStepCoils, HalfStepCoils, PulseOutput};
+use outputs::{DryRunOutput, FullStepCoils, HalfStepCoils, PulseOutput};
 use phases::Phase;
 use programs::Output;
 
@@ -52,6 +52,7 @@ impl History<'_> {
             Output::Full => self.play_over(FullStepCoils::new(), memory, answers),
             Output::Half => self.play_over(HalfStepCoils::new(), memory, answers),
             Output::Pulse => self.play_over(PulseOutput::new(), memory, answers),
+            Output::Dry => self.play_over(DryRunOutput::new(), memory, answers),
         }
     }
 }

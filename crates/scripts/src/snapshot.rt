@@ -4,14 +4,15 @@ ghost use Rattle.std.specs.Prelude.{◌≡◌};
 use control::Control;
 use faults::Fault;
 use module::Module;
-use outputs::{Drive, LineOutput, MotorCoils, PulseOutput, StepOutput};
+use outputs::{Drive, DryRunOutput, LineOutput, MotorCoils, PulseOutput, StepOutput};
 use phases::Phase;
 
-// What an output shows: the pattern of its lines, or its pulses forward and back.
+// What an output shows: the pattern of its lines, its pulses forward and back, or its number.
 #[derive(Clone, Copy)]
 pub(crate) enum Shown {
     Lines(u8),
     Pulses(u32, u32),
+    Number(i32),
 }
 
 pub(crate) trait ShownOutput: StepOutput {
@@ -27,6 +28,12 @@ impl<D: Drive> ShownOutput for MotorCoils<D> {
 impl ShownOutput for PulseOutput {
     fn show(&self) -> Shown {
         Shown::Pulses(self.forward(), self.back())
+    }
+}
+
+impl ShownOutput for DryRunOutput {
+    fn show(&self) -> Shown {
+        Shown::Number(self.number())
     }
 }
 

@@ -13,7 +13,8 @@ answered. Without a FILE, and for -, the script is standard input; several files
 are played one after another, each with modules of its own. Status 0 if every
 line was understood, else 1.
 
-    module full|half|pulse ADDRESS   begins a module and ends the one before
+    module full|half|pulse|dry ADDRESS
+                  begins a module and ends the one before
     send TEXT     the characters of TEXT, then 0Dh
     type TEXT     the characters of TEXT alone
     byte HH [damaged]

@@ -26,6 +26,7 @@ fn sheet_asked(heap: Global, words: &[String]) -> Result<String, Fail> {
                 Output::Full => "full",
                 Output::Half => "half",
                 Output::Pulse => "pulse",
+                Output::Dry => "dry",
             };
             Ok(format!(in heap; "{file} at {address:02}, {output}")?)
         }
@@ -81,6 +82,7 @@ fn sheet_options(rt: HostRuntime) -> Result<(), Fail> {
         ("--output full masks.seq", "masks.seq at 00, full"),
         ("--output half masks.seq", "masks.seq at 00, half"),
         ("--output pulse --address 09 -", "- at 09, pulse"),
+        ("masks.seq --output dry", "masks.seq at 00, dry"),
         (
             "--output half --output pulse --address 01 --address 02 a",
             "a at 02, pulse",
@@ -114,9 +116,12 @@ fn sheet_refusals(rt: HostRuntime) -> Result<(), Fail> {
         ),
         (
             "--output Full masks.seq",
-            "'Full' is no step output: there are full, half and pulse",
+            "'Full' is no step output: there are full, half, pulse and dry",
         ),
-        ("masks.seq --output", "--output wants full, half or pulse"),
+        (
+            "masks.seq --output",
+            "--output wants full, half, pulse or dry",
+        ),
         ("--huge masks.seq", "there is no option '--huge'"),
         ("-h", "there is no option '-h'"),
         ("a b", "one file at a time: 'b' is a second one"),

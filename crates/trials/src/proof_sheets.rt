@@ -1,5 +1,5 @@
 //! Short files and their proof sheets, at a module over full steps.
-use outputs::{FullStepCoils, HalfStepCoils, PulseOutput, StepOutput};
+use outputs::{DryRunOutput, FullStepCoils, HalfStepCoils, PulseOutput, StepOutput};
 use runs::{Ending, Report};
 use sheet::{Sheet, Unreadable, Verdict, proofread};
 use std::alloc::Global;
@@ -334,6 +334,7 @@ fn each_output_tells_its_cycle(rt: HostRuntime) -> Result<(), Fail> {
     let full = version_at(rt.alloc(), FullStepCoils::new())?;
     let half = version_at(rt.alloc(), HalfStepCoils::new())?;
     let pulse = version_at(rt.alloc(), PulseOutput::new())?;
+    let dry = version_at(rt.alloc(), DryRunOutput::new())?;
     assert!(rt;
         full.as_str()
             .starts_with("line   1  07RV  07EV 10 00000004\n")
@@ -345,6 +346,10 @@ fn each_output_tells_its_cycle(rt: HostRuntime) -> Result<(), Fail> {
     assert!(rt;
         pulse
             .as_str()
+            .starts_with("line   1  07RV  07EV 10 00000001\n")
+    );
+    assert!(rt;
+        dry.as_str()
             .starts_with("line   1  07RV  07EV 10 00000001\n")
     );
     Ok(())
