@@ -167,5 +167,6 @@ fn requests_without_room(rt: HostRuntime) {
     assert_eq!(rt; played, Err(NoRoom));
     assert_eq!(rt; dry.power(), false);
     assert_eq!(rt; pulse.power(), false);
-    assert_eq!(rt; dry_room[0], Answer::Cycle(0));
+    assert_eq!(rt; dry_room, [Answer::Cycle(0); 2]);
+    assert_eq!(rt; pulse_room, [Answer::Cycle(0); 1]);
 }
